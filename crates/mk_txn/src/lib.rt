@@ -1,7 +1,22 @@
 //! Stamps, values, transactions, votes and outcomes: the words that the whole store speaks in.
 #![tactic(auto)]
 
-use std::alloc::AllocError;
+use std::alloc::{AllocError, AllocFailed};
+
+mod clashing;
+mod faults;
+mod marking;
+mod stamping;
+mod transaction;
+
+pub use clashing::conflicts;
+pub use faults::TxnError;
+pub use marking::Marks;
+pub use stamping::{id_precedes, later, next_stamp, precedes, same_id, same_stamp};
+pub use transaction::Txn;
+
+/// The greatest time of a stamp, 2^62.
+pub const LAST_TIME: u64 = 4_611_686_018_427_387_904;
 
 /// What a key holds: a number, or nothing since it was deleted.
 #[derive(Clone, Copy, Debug, PartialEq, Eq)]
@@ -107,6 +122,12 @@ pub struct NoMemory;
 
 impl From<AllocError> for NoMemory {
     fn from(_: AllocError) -> NoMemory {
+        NoMemory
+    }
+}
+
+impl<T: Drop> From<AllocFailed<T>> for NoMemory {
+    fn from(_: AllocFailed<T>) -> NoMemory {
         NoMemory
     }
 }
