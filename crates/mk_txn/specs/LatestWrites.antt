@@ -12,6 +12,7 @@ pub record VersionedValue : Type 0 where
   pub version : Stamp
   pub value : Value
 
+-- what every key holds at first
 abbrev pub first_version : VersionedValue
 first_version = record { version = zero_stamp; value = initial_value }
 
@@ -20,6 +21,7 @@ abbrev pub after_write : ℕ → Stamp → VersionedValue → WriteItem → Vers
 after_write key stamp latest item =
     if item.key == key then (if is_before stamp latest.version then latest else record { version = stamp; value = item.value }) else latest
 
+-- the same for each of these writes, in order of mention
 abbrev pub after_writes : ℕ → Stamp → VersionedValue → List WriteItem → VersionedValue
 after_writes key stamp latest [] = latest
 after_writes key stamp latest (item ∷ items) = after_writes key stamp (after_write key stamp latest item) items
@@ -29,6 +31,7 @@ abbrev pub latest_write : ℕ → VersionedValue → List Transaction → Versio
 latest_write key latest [] = latest
 latest_write key latest (txn ∷ txns) = latest_write key (after_writes key txn.stamp latest txn.writes) txns
 
+-- whether the transaction reads this key
 abbrev pub reads_key : ℕ → Transaction → Bool
 reads_key key txn = list_any (λ item. item.key == key) txn.reads
 

@@ -1,7 +1,8 @@
 //! Whether two transactions clash.
 ghost use Rattle.std.specs.Prelude.{◌≡◌};
-ghost use Rattle.mk_txn.specs.Clashes.{clashes, conflict, writes_key as is_written_by};
+ghost use Rattle.mk_txn.specs.Clashes.{clashes, conflict};
 
+use crate::faults::is_written;
 use crate::stamping::precedes;
 use crate::transaction::Txn;
 
@@ -21,11 +22,5 @@ fn clash(reader: &Txn, writer: &Txn) -> bool
     reader
         .reads()
         .iter()
-        .any(|item| writes_key(item.key, writer) && precedes(item.version, stamp) && precedes(stamp, end))
-}
-
-fn writes_key(key: u32, txn: &Txn) -> bool
-    ensures { result ≡ is_written_by key txn.now }
-{
-    txn.writes().iter().any(|item| item.key == key)
+        .any(|item| is_written(item.key, writer.writes()) && precedes(item.version, stamp) && precedes(stamp, end))
 }

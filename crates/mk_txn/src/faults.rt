@@ -1,5 +1,6 @@
 //! Why parts make no transaction.
-ghost use Rattle.std.specs.Prelude.{◌≡◌};
+ghost use Rattle.std.specs.Prelude.{◌≡◌, ◌==◌};
+ghost use Rattle.std.specs.List.{list_any};
 ghost use Rattle.mk_txn.specs.TxnFaults.{txn_fault, repeated_key, key_not_above};
 ghost use Rattle.mk_txn.specs.Transactions.{read_keys, write_keys};
 
@@ -53,7 +54,7 @@ fn repeated_read(reads: &[ReadItem]) -> Option<u32>
     ensures { result ≡ repeated_key (read_keys reads.now) }
 {
     for (i, item) in reads.iter().enumerate() {
-        if reads[i + 1..].iter().any(|later| later.key == item.key) {
+        if is_read(item.key, &reads[i + 1..]) {
             return Some(item.key);
         }
     }
@@ -64,11 +65,23 @@ fn repeated_write(writes: &[WriteItem]) -> Option<u32>
     ensures { result ≡ repeated_key (write_keys writes.now) }
 {
     for (i, item) in writes.iter().enumerate() {
-        if writes[i + 1..].iter().any(|later| later.key == item.key) {
+        if is_written(item.key, &writes[i + 1..]) {
             return Some(item.key);
         }
     }
     None
+}
+
+fn is_read(key: u32, reads: &[ReadItem]) -> bool
+    ensures { result ≡ list_any (λ item. item.key == key) reads.now }
+{
+    reads.iter().any(|item| item.key == key)
+}
+
+pub(crate) fn is_written(key: u32, writes: &[WriteItem]) -> bool
+    ensures { result ≡ list_any (λ item. item.key == key) writes.now }
+{
+    writes.iter().any(|item| item.key == key)
 }
 
 fn read_not_below(stamp: Stamp, reads: &[ReadItem]) -> Option<u32>

@@ -7,6 +7,8 @@ mod clashing;
 mod faults;
 mod marking;
 mod stamping;
+#[cfg(test)]
+mod tests;
 mod transaction;
 
 pub use clashing::conflicts;
@@ -26,14 +28,14 @@ pub enum Value {
 }
 
 /// A point in the order of transactions: a time, and the client's number where times tie.
-#[derive(Clone, Copy, Debug, PartialEq, Eq)]
+#[derive(Clone, Copy, Debug, PartialEq, Eq, PartialOrd, Ord)]
 pub struct Stamp {
     pub time: u64,
     pub client: u32,
 }
 
 /// The number of an attempt: its client, and its place among that client's attempts, from 1.
-#[derive(Clone, Copy, Debug, PartialEq, Eq)]
+#[derive(Clone, Copy, Debug, PartialEq, Eq, PartialOrd, Ord)]
 pub struct TxnId {
     pub client: u32,
     pub seq: u32,
