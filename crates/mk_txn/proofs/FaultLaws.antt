@@ -47,6 +47,7 @@ IsTransaction-from_no_fault id stamp reads writes e = by_number (nat_lt 16 (leng
   where
     others : Option TxnError
     others = fault_at Repeated (repeated_key (read_keys reads)) (fault_at Repeated (repeated_key (write_keys writes)) (fault_at NotAbove (key_not_above stamp reads) None))
+
     by_number : (b : Bool) → (nat_lt 16 (length reads) || nat_lt 16 (length writes)) ≡ b → (if b then Some TooMany else fault_at Repeated (repeated_key (read_keys reads)) (fault_at Repeated (repeated_key (write_keys writes)) (fault_at NotAbove (key_not_above stamp reads) None))) ≡ None → IsTransaction (record { id = id; stamp = stamp; reads = reads; writes = writes })
     by_number true few e = absurd (cc e)
     by_number false few e =

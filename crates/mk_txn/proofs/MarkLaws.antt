@@ -91,11 +91,11 @@ same_client x y xs ys h k e =
     let here : mark_of (x ∷ xs) x.0 ≡ x.1 = grind (arith, nat_tests) in
     let there : mark_of (y ∷ ys) y.0 ≡ y.1 = grind (arith, nat_tests) in
     let left : x.0 < y.0 → ⊥ = λ lt.
-        (let none : mark_of (y ∷ ys) x.0 ≡ 0 = mark_of-before x.0 (y ∷ ys) (lt, Each-weaker (λ later. y.0 < later.0) (λ later. x.0 < later.0) (λ later more. omega (arith, lt, more)) ys k.1) in
-        omega (arith, here, none, e x.0, h.0)) in
+    (let none : mark_of (y ∷ ys) x.0 ≡ 0 = mark_of-before x.0 (y ∷ ys) (lt, Each-weaker (λ later. y.0 < later.0) (λ later. x.0 < later.0) (λ later more. omega (arith, lt, more)) ys k.1) in
+    omega (arith, here, none, e x.0, h.0)) in
     let right : y.0 < x.0 → ⊥ = λ lt.
-        (let none : mark_of (x ∷ xs) y.0 ≡ 0 = mark_of-before y.0 (x ∷ xs) (lt, Each-weaker (λ later. x.0 < later.0) (λ later. y.0 < later.0) (λ later more. omega (arith, lt, more)) xs h.1) in
-        omega (arith, there, none, e y.0, k.0)) in
+    (let none : mark_of (x ∷ xs) y.0 ≡ 0 = mark_of-before y.0 (x ∷ xs) (lt, Each-weaker (λ later. x.0 < later.0) (λ later. y.0 < later.0) (λ later more. omega (arith, lt, more)) xs h.1) in
+    omega (arith, there, none, e y.0, k.0)) in
     grind (arith, left, right)
 
 same_seq : (x y : ℕ × ℕ) (xs ys : MarkMap) → x.0 ≡ y.0 → mark_of (x ∷ xs) x.0 ≡ mark_of (y ∷ ys) x.0 → x.1 ≡ y.1

@@ -19,8 +19,7 @@ fn clash(reader: &Txn, writer: &Txn) -> bool
 {
     let stamp = writer.stamp();
     let end = reader.stamp();
-    reader
-        .reads()
-        .iter()
-        .any(|item| is_written(item.key, writer.writes()) && precedes(item.version, stamp) && precedes(stamp, end))
+    reader.reads().iter().any(|item| is_written(item.key, writer.writes())
+        && precedes(item.version, stamp)
+        && precedes(stamp, end))
 }

@@ -4,10 +4,9 @@ ghost use Rattle.std.specs.List.{list_any};
 ghost use Rattle.mk_txn.specs.TxnFaults.{txn_fault, repeated_key, key_not_above};
 ghost use Rattle.mk_txn.specs.Transactions.{read_keys, write_keys};
 
-use std::alloc::AllocError;
-
 use crate::stamping::precedes;
 use crate::{ReadItem, Stamp, WriteItem};
+use std::alloc::AllocError;
 
 /// The most reads, and the most writes, of a transaction.
 const MOST_ITEMS: usize = 16;

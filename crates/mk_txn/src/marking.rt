@@ -1,11 +1,10 @@
 //! Marks of clients.
 ghost use Rattle.std.specs.Prelude.{◌≡◌, [], OnOk, OnErr, IfOk};
 
+use crate::{NoMemory, TxnId};
 use std::alloc::Global;
 use std::collections::BTreeMap;
 use std::marker::Model;
-
-use crate::{NoMemory, TxnId};
 
 /// For each client the number up to which its attempts are known to need no more telling, and 0 for all others.
 #[derive(Drop, Debug)]
@@ -24,7 +23,7 @@ impl Model for Marks {
 }
 
 impl Marks {
-    ghost use Rattle.mk_txn.specs.MarkMaps.{mark_of, raised, covers as is_covered, IsMarkMap};
+    ghost use Rattle.mk_txn.specs.MarkMaps.{mark_of, raised, joined_marks, covers as is_covered, IsMarkMap};
 
     /// No marks.
     pub fn new(alloc: Global) -> Marks
@@ -52,6 +51,26 @@ impl Marks {
             self.seqs.insert(client, seq)?;
         }
         Ok(())
+    }
+
+    /// Each client's mark is then at least what it is in `more`.
+    pub fn join(&mut self, more: &Marks) -> Result<(), NoMemory>
+        ensures ok { OnOk result (self.new ≡ joined_marks self.old more.now) }
+        ensures err { OnErr result (self.new ≡ self.old) }
+    {
+        let mut all = self.copy()?;
+        for (client, seq) in &more.seqs {
+            all.raise(*client, *seq)?;
+        }
+        *self = all;
+        Ok(())
+    }
+
+    /// Leaves no marks.
+    pub fn clear(&mut self)
+        ensures { self.new ≡ [] }
+    {
+        self.seqs.clear();
     }
 
     /// Whether the attempt is up to its client's mark.

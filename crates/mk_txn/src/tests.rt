@@ -1,6 +1,8 @@
+ghost use Rattle.std.specs.Prelude.{◌≡◌};
+
 use crate::{
-    Marks, NoMemory, ReadItem, Stamp, Txn, TxnError, TxnId, Value, WriteItem, conflicts, id_precedes, later,
-    next_stamp, precedes, same_id, same_stamp,
+    Marks, NoMemory, ReadItem, Stamp, Txn, TxnError, TxnId, Value, WriteItem, conflicts,
+    id_precedes, later, next_stamp, precedes, same_id, same_stamp,
 };
 use std::test::Fail;
 
@@ -20,7 +22,9 @@ const FIRST: TxnId = TxnId { client: 1, seq: 1 };
 
 const SECOND: TxnId = TxnId { client: 2, seq: 1 };
 
-fn read(key: u32, version: Stamp) -> ReadItem {
+fn read(key: u32, version: Stamp) -> ReadItem
+    ensures { result.version ≡ version }
+{
     ReadItem {
         key,
         version,
@@ -43,7 +47,10 @@ fn stamps_are_ordered_and_rise(rt: HostRuntime) {
     assert!(rt; same_id(FIRST, FIRST) && !same_id(FIRST, SECOND));
     assert!(rt; id_precedes(FIRST, SECOND) && !id_precedes(SECOND, FIRST));
     assert_eq!(rt; next_stamp(1, 4_611_686_018_427_387_904, 0, &[]), None);
-    assert_eq!(rt; next_stamp(1, 0, 0, &[]), Some(Stamp { time: 1, client: 1 }));
+    assert_eq!(rt;
+        next_stamp(1, 0, 0, &[]),
+        Some(Stamp { time: 1, client: 1 })
+    );
     let raised = next_stamp(2, 0, 5, &[read(0, EARLY)]);
     assert_eq!(rt; raised, Some(LATE));
 }
@@ -67,10 +74,34 @@ fn parts_at_fault_make_no_transaction(rt: HostRuntime) {
     let alloc = rt.alloc();
     let many = [write(0); 17];
     let cases = [
-        (Txn::new(alloc, FIRST, EARLY, &[read(1, LATE), read(1, START)], many.as_slice()), TxnError::TooMany),
-        (Txn::new(alloc, FIRST, EARLY, &[read(2, LATE), read(1, START), read(1, START)], &[]), TxnError::Repeated(1)),
-        (Txn::new(alloc, FIRST, EARLY, &[read(2, LATE)], &[write(3), write(3)]), TxnError::Repeated(3)),
-        (Txn::new(alloc, FIRST, EARLY, &[read(1, START), read(2, EARLY)], &[]), TxnError::NotAbove(2)),
+        (
+            Txn::new(
+                alloc,
+                FIRST,
+                EARLY,
+                &[read(1, LATE), read(1, START)],
+                many.as_slice(),
+            ),
+            TxnError::TooMany,
+        ),
+        (
+            Txn::new(
+                alloc,
+                FIRST,
+                EARLY,
+                &[read(2, LATE), read(1, START), read(1, START)],
+                &[],
+            ),
+            TxnError::Repeated(1),
+        ),
+        (
+            Txn::new(alloc, FIRST, EARLY, &[read(2, LATE)], &[write(3), write(3)]),
+            TxnError::Repeated(3),
+        ),
+        (
+            Txn::new(alloc, FIRST, EARLY, &[read(1, START), read(2, EARLY)], &[]),
+            TxnError::NotAbove(2),
+        ),
     ];
     for (answer, fault) in cases {
         assert_eq!(rt; answer.err(), Some(fault));
@@ -83,8 +114,17 @@ fn marks_only_rise(rt: HostRuntime) -> Result<(), NoMemory> {
     marks.raise(2, 3)?;
     marks.raise(2, 1)?;
     marks.raise(1, 4)?;
-    let marks = marks.copy()?;
-    assert_eq!(rt; (marks.get(1), marks.get(2), marks.get(3)), (4, 3, 0));
-    assert!(rt; marks.covers(TxnId { client: 2, seq: 3 }) && !marks.covers(TxnId { client: 2, seq: 4 }));
+    let mut all = marks.copy()?;
+    all.raise(3, 1)?;
+    marks.raise(1, 5)?;
+    all.join(&marks)?;
+    marks.clear();
+    assert_eq!(rt;
+        (all.get(1), all.get(2), all.get(3), marks.get(1)),
+        (5, 3, 1, 0)
+    );
+    assert!(rt;
+        marks.covers(TxnId { client: 2, seq: 3 }) && !marks.covers(TxnId { client: 2, seq: 4 })
+    );
     Ok(())
 }

@@ -1,11 +1,10 @@
 //! Transactions: what an attempt read and is to write, under its stamp.
 ghost use Rattle.std.specs.Prelude.{◌≡◌, ◌⊎◌, IfOk, IfErr, IfSome, ℕ, List};
 
-use std::alloc::Global;
-use std::marker::Model;
-
 use crate::faults::{TxnError, find_fault};
 use crate::{NoMemory, ReadItem, Stamp, TxnId, WriteItem};
+use std::alloc::Global;
+use std::marker::Model;
 
 /// An attempt's number, stamp, reads and writes. It never changes.
 #[derive(Drop, Debug)]
