@@ -1,7 +1,6 @@
 -- Repeated keys one place at a time, and that parts without a fault make a transaction.
-use Rattle.std.proofs.Common.{◌≡◌, ◌∙◌, ◌<◌, ◌≤◌, ℕ, ◌+◌, ◌-◌, Bool, true, false, refl, sym, ap, subst, arith, List, [], ◌∷◌, ◌==◌, ◌||◌, ◌&&◌, not, map, length, get_or, take, drop, Option, Some, None, find, if◌then◌else◌, nat_lt, add-one}
-use Rattle.std.specs.Option.{option_map}
-use Rattle.std.specs.List.{list_any, list_all}
+use Rattle.std.proofs.Common.{◌≡◌, ◌∙◌, ◌<◌, ℕ, ◌+◌, ◌-◌, Bool, true, false, refl, sym, ap, subst, arith, List, [], ◌∷◌, ◌==◌, ◌||◌, map, length, get_or, take, drop, Option, Some, None, if◌then◌else◌, nat_lt, add-one}
+use Rattle.std.specs.List.{list_any}
 use Rattle.std.proofs.Math.Seq.{drop-cons}
 use Rattle.std.proofs.lemmas.List.{take_rest}
 use Rattle.std.proofs.lemmas.Bool.Decides.{nat_tests}
@@ -11,8 +10,7 @@ use Rattle.mk_txn.specs.declared.ReadItem.{ReadItem}
 use Rattle.mk_txn.specs.declared.WriteItem.{WriteItem}
 use Rattle.mk_txn.specs.declared.faults.TxnError.{TxnError}
 use Rattle.mk_txn.specs.declared.faults.TxnError.TheVariants.{TooMany, Repeated, NotAbove}
-use Rattle.mk_txn.specs.Stamps.{is_before}
-use Rattle.mk_txn.specs.Transactions.{Transaction, IsTransaction, read_keys, write_keys, are_distinct, is_above_reads}
+use Rattle.mk_txn.specs.Transactions.{IsTransaction, read_keys, write_keys, are_distinct, is_above_reads}
 use Rattle.mk_txn.specs.TxnFaults.{repeated_key, key_not_above, fault_at, txn_fault}
 
 list_any-map : {X : Type 0} (key_of : X → ℕ) (p : ℕ → Bool) (xs : List X) → list_any p (map key_of xs) ≡ list_any (λ x. p (key_of x)) xs

@@ -1,5 +1,5 @@
 -- What raising and joining marks leave of each client, and that two maps with the same marks are one.
-use Rattle.std.proofs.Common.{◌≡◌, ◌≢◌, ◌<◌, ◌≤◌, ℕ, Bool, true, false, refl, sym, subst, ◌∙◌, arith, List, [], ◌∷◌, ◌==◌, nat_lt, nat_le, max, fold, unwrap_or, if◌then◌else◌}
+use Rattle.std.proofs.Common.{◌≡◌, ◌≢◌, ◌<◌, ◌≤◌, ℕ, Bool, true, false, refl, sym, subst, ◌∙◌, arith, [], ◌∷◌, ◌==◌, nat_lt, max, unwrap_or, if◌then◌else◌}
 use Rattle.std.proofs.lemmas.Bool.Decides.{nat_tests}
 use Rattle.std.specs.Ordering.{nat_cmp}
 use Rattle.std.specs.Map.{lookup}

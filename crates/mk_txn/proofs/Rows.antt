@@ -1,15 +1,13 @@
 -- Worked cases, by computation.
-use Rattle.std.proofs.Common.{◌≡◌, true, false, refl, List, [], ◌∷◌, Some, None}
-use Rattle.mk_txn.specs.declared.Stamp.{Stamp}
+use Rattle.std.proofs.Common.{◌≡◌, true, false, refl, [], ◌∷◌, Some, None}
 use Rattle.mk_txn.specs.declared.Value.TheVariants.{Number}
 use Rattle.mk_txn.specs.declared.ReadItem.{ReadItem}
-use Rattle.mk_txn.specs.declared.WriteItem.{WriteItem}
 use Rattle.mk_txn.specs.declared.faults.TxnError.TheVariants.{Repeated, NotAbove}
 use Rattle.mk_txn.specs.Stamps.{next_stamp_of}
 use Rattle.mk_txn.specs.Transactions.{Transaction}
 use Rattle.mk_txn.specs.TxnFaults.{txn_fault}
 use Rattle.mk_txn.specs.Clashes.{clashes, conflict}
-use Rattle.mk_txn.specs.MarkMaps.{mark_of, raised, joined_marks}
+use Rattle.mk_txn.specs.MarkMaps.{raised, joined_marks}
 
 -- the last time is 2^62: there is no later stamp
 no_stamp_left : next_stamp_of 1 4611686018427387904 0 [] ≡ None

@@ -1,5 +1,5 @@
 -- Marks: for each client the place up to which its attempts are known to need no more telling, and 0 where there is none.
-use Rattle.std.specs.Prelude.{◌≡◌, ◌<◌, ℕ, Bool, true, ◌==◌, nat_lt, nat_le, max, List, [], ◌∷◌, fold, if◌then◌else◌}
+use Rattle.std.specs.Prelude.{◌<◌, ℕ, Bool, ◌==◌, nat_lt, nat_le, max, List, [], ◌∷◌, fold, if◌then◌else◌}
 use Rattle.mk_lists.specs.Among.{Each}
 use Rattle.mk_txn.specs.declared.TxnId.{TxnId}
 

@@ -1,5 +1,4 @@
-use Rattle.std.proofs.Common.{◌≡◌, sym}
-use Rattle.mk_txn.specs.Transactions.{IsTransaction}
+use Rattle.std.proofs.Common.{sym}
 use Rattle.mk_txn.proofs.FaultLaws.{IsTransaction-from_no_fault}
 use Rattle.mk_txn.proofs.transaction.Txn.new.Goals as goal
 
