@@ -11,12 +11,14 @@ use Rattle.mk_cell.specs.declared.Act.TheVariants.{Get, CheckRead, CheckWrite, C
 use Rattle.mk_cell.specs.declared.Answer.{Answer}
 use Rattle.mk_cell.specs.declared.Answer.TheVariants.{Version, Okay, Refused, Done}
 
+-- whether two values are equal
 abbrev pub same_value : Value → Value → Bool
 same_value (Number n) (Number m) = n == m
 same_value Absent Absent = true
 same_value (Number n) Absent = false
 same_value Absent (Number m) = false
 
+-- whether two acts are equal
 abbrev pub same_act : Act → Act → Bool
 same_act Get Get = true
 same_act (CheckRead ts version) (CheckRead ts' version') = same_stamp ts ts' && same_stamp version version'

@@ -33,6 +33,7 @@ pub record Refusal : Type 0 where
   pub reason : Reason
   pub stamp : Stamp
 
+-- a refusal for this reason, where there is a stamp to name
 abbrev pub refused_by : Reason → Option Stamp → Option Refusal
 refused_by reason None = None
 refused_by reason (Some stamp) = Some (record { reason = reason; stamp = stamp })
@@ -71,6 +72,7 @@ abbrev pub reader_joined : CellState → Stamp → Option Refusal → CellState
 reader_joined cell ts (Some refusal) = cell
 reader_joined cell ts None = record cell { readers = joined ts cell.readers }
 
+-- a writer joins unless it was refused
 abbrev pub writer_joined : CellState → Stamp → Option Refusal → CellState
 writer_joined cell ts (Some refusal) = cell
 writer_joined cell ts None = record cell { writers = joined ts cell.writers }

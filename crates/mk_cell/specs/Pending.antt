@@ -17,6 +17,7 @@ joined stamp (first ∷ rest) =
 abbrev pub without : Stamp → List Stamp → List Stamp
 without stamp stamps = filter (λ other. not (same_stamp other stamp)) stamps
 
+-- the stamp is in the list
 abbrev pub has_stamp : Stamp → List Stamp → Bool
 has_stamp stamp stamps = list_any (λ other. same_stamp other stamp) stamps
 

@@ -21,6 +21,7 @@ outcome_after epoch (KnownOutcome outcome) = Some outcome
 outcome_after epoch Absent = Some (Abort (ByEpoch epoch))
 outcome_after epoch Forgotten = None
 
+-- what a Moved teaches
 abbrev pub moved_outcome : Moved → Option Outcome
 moved_outcome moved = outcome_after moved.to moved.fate
 
@@ -32,6 +33,7 @@ coord_answered r (ToldBody told) coord = coord_taught told.last coord
 coord_answered r (MovedBody moved) coord = coord_taught (moved_outcome moved) coord
 coord_answered r _ coord = coord
 
+-- an attempt whose own coordinator takes an answer
 abbrev pub attempt_answered : ℕ → Body → AttemptState → AttemptState
 attempt_answered r body attempt = record attempt { coord = coord_answered r body attempt.coord }
 
@@ -57,6 +59,7 @@ abbrev pub listens : Option AttemptState → Bool
 listens (Some attempt) = not (attempt.stopped || is_some attempt.coord.learned)
 listens None = false
 
+-- an answer in view 0 is taken where the own coordinator listens
 abbrev pub own_answered : Msg → ColumnState → ColumnState
 own_answered msg column =
     if listens (attempt_of column msg.id)

@@ -85,6 +85,7 @@ pub record ColumnState : Type 0 where
   pub work : Work
   pub learned : List Learning
 
+-- a client that has begun nothing
 abbrev pub new_client : ℕ → ClientState
 new_client number = record { number = number; last_time = 0; next_seq = 1; heard = 0 }
 
@@ -102,27 +103,35 @@ new_column f clients =
       learned = [];
     }
 
+-- the entries at this replica
 abbrev pub entries_at : ColumnState → ℕ → List Entry
 entries_at column r = slice_index_or column.records r []
 
+-- the marks at this replica
 abbrev pub marks_at : ColumnState → ℕ → MarkMap
 marks_at column r = slice_index_or column.marks r []
 
+-- the client has this number
 abbrev pub is_client : ℕ → ClientState → Bool
 is_client number client = client.number == number
 
+-- the client of this number
 abbrev pub client_of : ColumnState → ℕ → Option ClientState
 client_of column number = find (is_client number) column.clients
 
+-- the attempt has this number
 abbrev pub is_attempt : TxnId → AttemptState → Bool
 is_attempt id attempt = same_id attempt.id id
 
+-- the attempt of this number
 abbrev pub attempt_of : ColumnState → TxnId → Option AttemptState
 attempt_of column id = find (is_attempt id) column.attempts
 
+-- the takeover is of this attempt and at this view
 abbrev pub is_takeover : TxnId → ℕ → TakeoverOf → Bool
 is_takeover id view takeover = same_id takeover.id id && takeover.state.view == view
 
+-- the takeover of this attempt at this view
 abbrev pub takeover_of : ColumnState → TxnId → ℕ → Option TakeoverOf
 takeover_of column id view = find (is_takeover id view) column.takeovers
 
@@ -154,12 +163,15 @@ client_mark column client =
 abbrev pub mark_sent : Setting → ColumnState → ℕ → ℕ
 mark_sent round column client = if round.version == 2 then client_mark column client else 0
 
+-- the client of this number is changed, and no other
 abbrev pub change_client : ℕ → (ClientState → ClientState) → ColumnState → ColumnState
 change_client number f column = record column { clients = change (is_client number) f column.clients }
 
+-- the attempt of this number is changed, and no other
 abbrev pub change_attempt : TxnId → (AttemptState → AttemptState) → ColumnState → ColumnState
 change_attempt id f column = record column { attempts = change (is_attempt id) f column.attempts }
 
+-- the takeover of this attempt at this view is changed, and no other
 abbrev pub change_takeover : TxnId → ℕ → (TakeoverOf → TakeoverOf) → ColumnState → ColumnState
 change_takeover id view f column = record column { takeovers = change (is_takeover id view) f column.takeovers }
 
@@ -173,5 +185,6 @@ abbrev pub to_all : ℕ → ℕ → TxnId → ℕ → Body → List Msg
 to_all f epoch id view body =
     map (λ r. record { epoch = epoch; id = id; replica = r; view = view; body = body }) (numbers_from 0 (members f))
 
+-- messages are sent, in order
 abbrev pub send : List Msg → ColumnState → ColumnState
 send messages column = record column { link = column.link ++ messages }

@@ -29,10 +29,12 @@ use Rattle.mk_column.specs.ColumnState.Work.{Idle, Fetching, Validating, Finishi
 use Rattle.mk_column.specs.Replicas.{is_serving}
 use Rattle.mk_column.specs.Answers.{is_led}
 
+-- no key call is under way
 abbrev pub is_idle : Work → Bool
 is_idle Idle = true
 is_idle _ = false
 
+-- an act at a key of this replica
 abbrev pub call_at : ℕ → ℕ × Act → KeyCall
 call_at r act = record { replica = r; key = act.0; act = act.1 }
 
@@ -44,6 +46,7 @@ wanted (Validating txn replica epoch state) = option_map (call_at replica) (next
 wanted (Finishing replica []) = None
 wanted (Finishing replica (act ∷ acts)) = Some (call_at replica act)
 
+-- whether two key calls are equal
 abbrev pub same_call : KeyCall → KeyCall → Bool
 same_call a b = a.replica == b.replica && a.key == b.key && same_act a.act b.act
 
@@ -64,6 +67,7 @@ abbrev pub may_begin : ColumnState → ℕ → Bool
 may_begin column client =
     is_some (client_of column client) && not (list_any (λ a. a.reading && a.id.client == client) column.attempts)
 
+-- the client's next place is one that an attempt can have
 abbrev pub has_seq_left : ColumnState → ℕ → Bool
 has_seq_left column client = passes (λ c. nat_le c.next_seq 16384) (client_of column client)
 
@@ -71,6 +75,7 @@ has_seq_left column client = passes (λ c. nat_le c.next_seq 16384) (client_of c
 abbrev pub on_attempt : ColumnState → TxnId → (AttemptState → Bool) → Bool
 on_attempt column id test = passes test (attempt_of column id)
 
+-- the attempt has its transaction
 abbrev pub is_stamped : AttemptState → Bool
 is_stamped attempt = is_some attempt.txn
 
@@ -88,6 +93,7 @@ abbrev pub stamp_exists : ColumnState → AttemptState → ℕ → Bool
 stamp_exists column attempt clock =
     passes (λ c. is_some (next_stamp_of c.number c.last_time clock attempt.reads)) (client_of column attempt.id.client)
 
+-- the message is a Validate of this attempt
 abbrev pub is_validate_of : TxnId → Msg → Bool
 is_validate_of id msg = is_validate msg.body && same_id msg.id id
   where
@@ -167,6 +173,7 @@ further_conditions round column (Stop id) =
     on_attempt column id is_stamped
     ∷ (on_attempt column id (λ a. not a.stopped && is_none a.coord.learned) ∷ [])
 
+-- all conditions of a step, in their order
 abbrev pub conditions : Setting → ColumnState → Step → List Bool
 conditions round column step = first_condition column step ∷ further_conditions round column step
 

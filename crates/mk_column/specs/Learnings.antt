@@ -23,6 +23,7 @@ use Rattle.mk_column.specs.ColumnState.Way.{ByVotes, ByAccepts, ByPick, ByMoved,
 use Rattle.mk_column.specs.Replicas.{serves}
 use Rattle.mk_column.specs.Answers.{listens, is_led, moved_outcome}
 
+-- an attempt's outcome, learned in this way
 abbrev pub learning : TxnId → Way → Outcome → Learning
 learning id way outcome = record { id = id; outcome = outcome; way = way }
 
@@ -54,6 +55,7 @@ is_heard round column msg =
 abbrev pub txn_of : ColumnState → TxnId → Option Transaction
 txn_of column id = option_and_then (λ a. a.txn) (attempt_of column id)
 
+-- there is an entry with a final outcome
 abbrev pub is_final : Option Entry → Bool
 is_final entry = passes (λ e. is_some e.last) entry
 
@@ -71,14 +73,17 @@ by_message round column msg (MovedBody moved) =
     if is_heard round column msg then learning_of msg.id (ByMoved moved.to) (moved_outcome moved) else []
 by_message round column msg _ = []
 
+-- what a message teaches that is taken
 abbrev pub by_taken : Setting → ColumnState → Option Msg → List Learning
 by_taken round column (Some msg) = by_message round column msg msg.body
 by_taken round column None = []
 
+-- what the own coordinator learns by a Rule
 abbrev pub by_rule : Setting → TxnId → Option AttemptState → List Learning
 by_rule round id (Some attempt) = by_ruling id (ruling round.faults attempt.coord)
 by_rule round id None = []
 
+-- what a takeover learns by a Pick
 abbrev pub by_takeover : Setting → TxnId → ℕ → Option TakeoverOf → List Learning
 by_takeover round id view (Some takeover) = by_pick id view (pick round.faults takeover.state)
 by_takeover round id view None = []
@@ -90,6 +95,7 @@ learned_in_step round column (PickStep id view) = by_takeover round id view (tak
 learned_in_step round column (Take number) = by_taken round column (message column.link number)
 learned_in_step round column _ = []
 
+-- a replica learned
 abbrev pub is_finishing : Way → Bool
 is_finishing ByFinishing = true
 is_finishing _ = false

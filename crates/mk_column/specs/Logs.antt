@@ -21,6 +21,7 @@ pub record LogReplays (round : Setting) (column : ColumnState) (log : List Step)
   pub enabled : EachEnabled round column log
   pub finished : (column_through round column log).work ≡ Idle
 
+-- an attempt that does not read any more
 abbrev pub not_reading : AttemptState → AttemptState
 not_reading attempt = record attempt { reading = false }
 

@@ -32,6 +32,7 @@ pub record Reaction : Type 0 where
   pub sent : List Msg
   pub work : Work
 
+-- nothing changes, and nothing is sent
 abbrev pub ignored : Held → Reaction
 ignored held = record { held = held; sent = []; work = Idle }
 
@@ -39,6 +40,7 @@ ignored held = record { held = held; sent = []; work = Idle }
 abbrev pub reply : Msg → Body → Msg
 reply msg body = record msg { body = body }
 
+-- one answer is sent
 abbrev pub answering : Held → Msg → Body → Reaction
 answering held msg body = record { held = held; sent = reply msg body ∷ []; work = Idle }
 
@@ -46,6 +48,7 @@ answering held msg body = record { held = held; sent = reply msg body ∷ []; wo
 abbrev pub told_of : Entry → Told
 told_of entry = record { vote = entry.vote; accepted = entry.accepted; last = entry.last }
 
+-- the entry that is there, or one as it is opened
 abbrev pub entry_or_opened : Transaction → Option Entry → Entry
 entry_or_opened txn (Some entry) = entry
 entry_or_opened txn None = opened txn
@@ -68,10 +71,12 @@ abbrev pub validate_unfinished : ℕ → Held → Msg → Option Vote → Reacti
 validate_unfinished mark held msg (Some vote) = answering (marking mark held msg) msg (Voted vote)
 validate_unfinished mark held msg None = ignored held
 
+-- a final entry answers a Validate with what it has
 abbrev pub validate_known : ℕ → Entry → Held → Msg → Option Outcome → Reaction
 validate_known mark entry held msg (Some outcome) = answering (marking mark held msg) msg (ToldBody (told_of entry))
 validate_known mark entry held msg None = validate_unfinished mark held msg entry.vote
 
+-- where there is no entry one is opened, and validation begins
 abbrev pub on_validate : Transaction → ℕ → Held → Msg → Option Entry → Reaction
 on_validate txn mark held msg (Some entry) = validate_known mark entry held msg entry.last
 on_validate txn mark held msg None =
@@ -84,6 +89,7 @@ ask_unfinished entry held msg =
     then ignored held
     else answering (changing (with_promise msg.view) held msg) msg (ToldBody (told_of entry))
 
+-- a final entry answers an Ask with what it has
 abbrev pub ask_known : Entry → Held → Msg → Option Outcome → Reaction
 ask_known entry held msg (Some outcome) = answering held msg (ToldBody (told_of entry))
 ask_known entry held msg None = ask_unfinished entry held msg
@@ -95,10 +101,12 @@ accept_unfinished outcome entry held msg =
     then ignored held
     else answering (changing (with_accepted msg.view outcome) held msg) msg AcceptedBody
 
+-- a final entry answers an Accept with what it has
 abbrev pub accept_known : Outcome → Entry → Held → Msg → Option Outcome → Reaction
 accept_known outcome entry held msg (Some last) = answering held msg (ToldBody (told_of entry))
 accept_known outcome entry held msg None = accept_unfinished outcome entry held msg
 
+-- the end of a transaction at these keys, which may be none
 abbrev pub finishing : ℕ → List KeyAct → Work
 finishing r [] = Idle
 finishing r (act ∷ acts) = Finishing r (act ∷ acts)
@@ -132,6 +140,7 @@ abbrev pub moved_reaction : ReplicaView → Held → Msg → Body → Reaction
 moved_reaction view held msg (Decide outcome) = ignored held
 moved_reaction view held msg _ = answering held msg (MovedBody (record { to = view.epoch; fate = fate_of view.fates msg.id }))
 
+-- the phase in which messages are taken
 abbrev pub is_serving : Phase → Bool
 is_serving Serving = true
 is_serving Paused = false
@@ -152,6 +161,7 @@ reaction_by_view txn held msg (Some view) =
     else if nat_lt msg.epoch view.epoch then moved_reaction view held msg msg.body
     else reaction txn held msg (entry_of msg.id held.entries) msg.body
 
+-- what this replica holds of the column
 abbrev pub held_at : ColumnState → ℕ → Held
 held_at column r = record { entries = entries_at column r; marks = marks_at column r }
 

@@ -37,11 +37,12 @@ abbrev pub on_some : {X : Type 0} → (X → ColumnState → ColumnState) → Op
 on_some f (Some x) column = f x column
 on_some f None column = column
 
--- Begin and Unread
+-- the epoch that columns see of a replica
 abbrev pub epoch_of : Option ReplicaView → ℕ
 epoch_of (Some view) = view.epoch
 epoch_of None = 0
 
+-- an attempt that begins to read at this replica, in its epoch
 abbrev pub new_attempt : ℕ → TxnId → ℕ → ℕ → AttemptState
 new_attempt f id replica epoch =
     record {
@@ -56,9 +57,11 @@ new_attempt f id replica epoch =
       coord = new_coord f;
     }
 
+-- an attempt that found no replica
 abbrev pub unread_attempt : ℕ → TxnId → AttemptState
 unread_attempt f id = let attempt = new_attempt f id 0 0 in record attempt { reading = false; unread = true }
 
+-- the number of the client's next attempt
 abbrev pub next_id : ClientState → TxnId
 next_id client = record { client = client.number; seq = client.next_seq }
 
@@ -66,18 +69,21 @@ next_id client = record { client = client.number; seq = client.next_seq }
 abbrev pub begun : ℕ → ClientState → ClientState
 begun epoch client = record client { next_seq = client.next_seq + 1; heard = max client.heard epoch }
 
+-- a column with one more attempt
 abbrev pub with_attempt : AttemptState → ColumnState → ColumnState
 with_attempt attempt column = record column { attempts = column.attempts ++ attempt ∷ [] }
 
+-- the client's next attempt begins
 abbrev pub beginning : Setting → ℕ → ℕ → ClientState → ColumnState → ColumnState
 beginning round replica epoch client column =
     with_attempt (new_attempt round.faults (next_id client) replica epoch) (change_client client.number (begun epoch) column)
 
+-- the client's next attempt is unread
 abbrev pub left_unread : Setting → ClientState → ColumnState → ColumnState
 left_unread round client column =
     with_attempt (unread_attempt round.faults (next_id client)) (change_client client.number (begun 0) column)
 
--- Stamp
+-- the transaction that a stamp and writes make of an attempt
 abbrev pub stamped_txn : AttemptState → StampType → List WriteItem → Transaction
 stamped_txn attempt stamp writes = record { id = attempt.id; stamp = stamp; reads = attempt.reads; writes = writes }
 
@@ -85,23 +91,27 @@ stamped_txn attempt stamp writes = record { id = attempt.id; stamp = stamp; read
 abbrev pub with_txn : StampType → List WriteItem → AttemptState → AttemptState
 with_txn stamp writes attempt = record attempt { reading = false; txn = Some (stamped_txn attempt stamp writes) }
 
+-- the client's last stamp has this time
 abbrev pub with_last_time : ℕ → ClientState → ClientState
 with_last_time time client = record client { last_time = time }
 
+-- the attempt and its client have this stamp
 abbrev pub stamped : TxnId → List WriteItem → Option StampType → ColumnState → ColumnState
 stamped id writes None column = column
 stamped id writes (Some stamp) column =
     change_client id.client (with_last_time stamp.time) (change_attempt id (with_txn stamp writes) column)
 
+-- the attempt gets its client's next stamp
 abbrev pub stamping : ℕ → List WriteItem → AttemptState → ColumnState → ColumnState
 stamping clock writes attempt column =
     on_some (λ c col. stamped attempt.id writes (next_stamp_of c.number c.last_time clock attempt.reads) col)
     (client_of column attempt.id.client) column
 
--- Rule, Again
+-- the own coordinator has proposed
 abbrev pub proposing : Outcome → AttemptState → AttemptState
 proposing outcome attempt = record attempt { coord = coord_proposed outcome attempt.coord }
 
+-- the own coordinator has learned, and what it learned first stays
 abbrev pub taught : Outcome → AttemptState → AttemptState
 taught outcome attempt = record attempt { coord = coord_taught (Some outcome) attempt.coord }
 
@@ -116,22 +126,26 @@ ruled f attempt (Propose outcome) column =
 ruled f attempt (Short k) column = column
 ruled f attempt (Unaccepted k) column = column
 
+-- the proposal is sent again
 abbrev pub sent_again : ℕ → AttemptState → ColumnState → ColumnState
 sent_again f attempt column =
     on_some (λ outcome col. send (to_all f attempt.epoch attempt.id 0 (Accept outcome)) col) attempt.coord.proposed column
 
--- Takeover, Pick
+-- a takeover begins at this view, and asks all replicas
 abbrev pub taken_over : ℕ → ℕ → AttemptState → ColumnState → ColumnState
 taken_over f view attempt column =
     send (to_all f attempt.epoch attempt.id view Ask)
     (record column { takeovers = column.takeovers ++ record { id = attempt.id; closed = false; state = new_takeover f view } ∷ [] })
 
+-- a takeover that is done
 abbrev pub closing : TakeoverOf → TakeoverOf
 closing takeover = record takeover { closed = true }
 
+-- a takeover that has proposed
 abbrev pub takeover_proposing : Outcome → TakeoverOf → TakeoverOf
 takeover_proposing outcome takeover = record takeover { state = takeover_proposed outcome takeover.state }
 
+-- what a pick makes known is sent to all and closes the takeover, and what it proposes is sent too
 abbrev pub picked : ℕ → ℕ → AttemptState → Pick → ColumnState → ColumnState
 picked f view attempt (Known outcome) column =
     send (to_all f attempt.epoch attempt.id view (Decide outcome)) (change_takeover attempt.id view closing column)
@@ -143,34 +157,39 @@ picked f view attempt (PickShort k) column = column
 picked f view attempt (PickUnaccepted k) column = column
 picked f view attempt (Unclear ok not_ok) column = column
 
+-- the takeover at this view does what its pick says
 abbrev pub picking : Setting → ℕ → AttemptState → ColumnState → ColumnState
 picking round view attempt column =
     on_some (λ t col. picked round.faults view attempt (pick round.faults t.state) col) (takeover_of column attempt.id view) column
 
--- Take
+-- the message's replica reacts to it
 abbrev pub replica_takes : Setting → Msg → Transaction → ColumnState → ColumnState
 replica_takes round msg txn column =
     reacted msg.replica (reaction_by_view txn (held_at column msg.replica) msg (slice_get round.views msg.replica)) column
 
+-- a message is taken by a replica, or by a coordinator or takeover
 abbrev pub taken : Setting → Msg → ColumnState → ColumnState
 taken round msg column =
     if goes_to_replica msg.body
     then on_some (replica_takes round msg) (txn_of column msg.id) column
     else answer_taken round msg column
 
--- Key: a value that was read joins the attempt's reads
+-- what the answer to a Get adds to an attempt's reads
 abbrev pub read_item : ℕ → Answer → List ReadItem
 read_item key (Version version value) = record { key = key; version = version; value = value } ∷ []
 read_item key Okay = []
 read_item key (Refused reason stamp) = []
 read_item key Done = []
 
+-- an attempt with what was read of the key
 abbrev pub with_read : ℕ → Answer → AttemptState → AttemptState
 with_read key answer attempt = record attempt { reads = attempt.reads ++ read_item key answer }
 
+-- the value that was asked for is read
 abbrev pub fetched : TxnId → ℕ → Answer → ColumnState → ColumnState
 fetched id key answer column = let read = change_attempt id (with_read key answer) column in record read { work = Idle }
 
+-- a vote for the own coordinator
 abbrev pub voted_msg : Transaction → ℕ → ℕ → Vote → Msg
 voted_msg txn replica epoch vote = record { epoch = epoch; id = txn.id; replica = replica; view = 0; body = Voted vote }
 
@@ -184,6 +203,7 @@ validated txn replica epoch state None column =
       work = Idle;
     }
 
+-- the key calls under way go on
 abbrev pub answered : Answer → Work → ColumnState → ColumnState
 answered answer Idle column = column
 answered answer (Fetching id replica key) column = fetched id key answer column

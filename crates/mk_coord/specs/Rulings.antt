@@ -19,6 +19,7 @@ pub record CoordState : Type 0 where
   pub proposed : Option Outcome
   pub learned : Option Outcome
 
+-- a coordinator that has taken nothing
 abbrev pub new_coord : ℕ → CoordState
 new_coord f = record { votes = empty_slots (members f); accepts = empty_slots (members f); proposed = None; learned = None }
 
@@ -30,6 +31,7 @@ vote_counted r vote coord = record coord { votes = filled coord.votes r vote }
 abbrev pub accept_counted : ℕ → CoordState → CoordState
 accept_counted r coord = record coord { accepts = filled coord.accepts r true }
 
+-- a coordinator that has proposed
 abbrev pub coord_proposed : Outcome → CoordState → CoordState
 coord_proposed outcome coord = record coord { proposed = Some outcome }
 
@@ -37,9 +39,11 @@ coord_proposed outcome coord = record coord { proposed = Some outcome }
 abbrev pub coord_taught : Option Outcome → CoordState → CoordState
 coord_taught outcome coord = record coord { learned = option_or coord.learned outcome }
 
+-- the vote refuses
 abbrev pub is_abort_vote : Vote → Bool
 is_abort_vote vote = not (is_ok_vote vote)
 
+-- every vote passes
 abbrev pub any_vote : Vote → Bool
 any_vote vote = true
 
@@ -62,6 +66,7 @@ by_votes f votes =
     else if nat_le (majority_of f) oks then Propose Commit
     else Propose (first_refusal votes)
 
+-- how many replicas accepted
 abbrev pub count_accepts : ℕ → List (Option Bool) → ℕ
 count_accepts f accepts = count_slots (members f) (λ filled. filled) accepts
 
@@ -70,10 +75,12 @@ abbrev pub by_accepts : ℕ → Outcome → List (Option Bool) → Ruling
 by_accepts f outcome accepts =
     if nat_le (majority_of f) (count_accepts f accepts) then Learned outcome else Unaccepted (count_accepts f accepts)
 
+-- after a proposal its accepts are counted, and else the votes
 abbrev pub unless_proposed : ℕ → CoordState → Option Outcome → Ruling
 unless_proposed f coord (Some outcome) = by_accepts f outcome coord.accepts
 unless_proposed f coord None = by_votes f coord.votes
 
+-- an outcome that was learned is the ruling
 abbrev pub unless_learned : ℕ → CoordState → Option Outcome → Ruling
 unless_learned f coord (Some outcome) = Learned outcome
 unless_learned f coord None = unless_proposed f coord coord.proposed

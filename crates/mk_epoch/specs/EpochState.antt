@@ -45,6 +45,7 @@ pub record EpochState : Type 0 where
 abbrev pub first_replica : ReplicaState
 first_replica = record { word = 0; phase = Serving; adopted = 0; base = empty_base }
 
+-- nothing was asked, promised, made or adopted
 abbrev pub first_epochs : ℕ → EpochState
 first_epochs f = record { faults = f; replicas = replicate (members f) first_replica; asked = []; promises = []; made = []; adoptions = [] }
 
@@ -52,9 +53,11 @@ first_epochs f = record { faults = f; replicas = replicate (members f) first_rep
 abbrev pub view_of : ReplicaState → ReplicaView
 view_of replica = record { phase = replica.phase; epoch = replica.adopted; fates = kept_of replica.base }
 
+-- what columns see of the replicas, by number
 abbrev pub views_of : EpochState → List ReplicaView
 views_of state = map view_of state.replicas
 
+-- somebody asked for this epoch
 abbrev pub was_asked : ℕ → EpochState → Bool
 was_asked epoch state = list_any (λ e. e == epoch) state.asked
 
@@ -70,6 +73,7 @@ made_for epoch state = option_map (λ m. m.base) (find (λ m. m.epoch == epoch) 
 abbrev pub base_for : ℕ → EpochState → Option BaseState
 base_for epoch state = if epoch == 0 then Some empty_base else made_for epoch state
 
+-- the replica once adopted the epoch
 abbrev pub ever_adopted : ℕ → EpochState → ℕ → Bool
 ever_adopted epoch state r = list_any (λ a. a.epoch == epoch && a.replica == r) state.adoptions
 

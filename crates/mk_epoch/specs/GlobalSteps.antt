@@ -20,9 +20,11 @@ pub record HandedIn : Type 0 where
   pub entries : List Entry
   pub marks : MarkMap
 
+-- what every other line hands in
 abbrev pub nothing_handed : HandedIn
 nothing_handed = record { entries = []; marks = [] }
 
+-- the replica of this number is changed, where there is one
 abbrev pub change_replica : ℕ → (ReplicaState → ReplicaState) → Option ReplicaState → EpochState → EpochState
 change_replica r f (Some replica) state = record state { replicas = slice_set state.replicas r (f replica) }
 change_replica r f None state = state
@@ -35,10 +37,12 @@ wiped replica = record replica { phase = Lacking; adopted = 0; base = empty_base
 abbrev pub promised : ℕ → ReplicaState → ReplicaState
 promised epoch replica = record replica { word = epoch; phase = Paused }
 
+-- the replica's promise, with what it hands in
 abbrev pub promise_of : ℕ → HandedIn → ReplicaState → PromiseState
 promise_of r handed replica =
     record { replica = r; adopted = replica.adopted; base = replica.base; entries = handed.entries; marks = handed.marks }
 
+-- the replica's promise is kept
 abbrev pub with_promise : ℕ → ℕ → HandedIn → Option ReplicaState → EpochState → EpochState
 with_promise epoch r handed (Some replica) state =
     record state { promises = state.promises ++ record { epoch = epoch; promise = promise_of r handed replica } ∷ [] }
@@ -54,12 +58,15 @@ with_base epoch None state =
 abbrev pub adopting : ℕ → BaseState → ReplicaState → ReplicaState
 adopting epoch base replica = record { word = epoch; phase = Adopted; adopted = epoch; base = base }
 
+-- the replica counts from now on as one that adopted the epoch
 abbrev pub with_adoption : ℕ → ℕ → EpochState → EpochState
 with_adoption epoch r state = record state { adoptions = state.adoptions ++ record { epoch = epoch; replica = r } ∷ [] }
 
+-- the base where it was made
 abbrev pub base_or_empty : Option BaseState → BaseState
 base_or_empty base = unwrap_or base empty_base
 
+-- the phase between an adoption and its Enter
 abbrev pub is_adopted : Phase → Bool
 is_adopted Adopted = true
 is_adopted _ = false
@@ -68,6 +75,7 @@ is_adopted _ = false
 abbrev pub awaits_enter : ℕ → ReplicaState → Bool
 awaits_enter epoch replica = is_adopted replica.phase && replica.adopted == epoch
 
+-- the replica serves the epoch that it has adopted
 abbrev pub serving : ReplicaState → ReplicaState
 serving replica = record replica { phase = Serving }
 

@@ -14,6 +14,7 @@ use Rattle.mk_column.specs.ColumnState.{ColumnState}
 use Rattle.mk_column.specs.ColumnState.Way.{ByVotes}
 use Rattle.mk_column.specs.Learnings.{learning}
 
+-- the message says that its replica accepted
 abbrev pub is_accepted_body : Body → Bool
 is_accepted_body Accepted = true
 is_accepted_body _ = false

@@ -20,8 +20,10 @@ clients_of column number [] = []
 clients_of column number (c ∷ columns) =
     if c == column then number ∷ clients_of column (number + 1) columns else clients_of column (number + 1) columns
 
+-- the log of this column
 abbrev pub log_of : RoundLog → ℕ → List Step
 log_of round c = slice_index_or round.logs c []
 
+-- the journal of this key at this replica
 abbrev pub journal_of : RoundLog → ℕ → ℕ → List JournalEntry
 journal_of round r key = slice_index_or (slice_index_or round.journals r []) key []

@@ -53,6 +53,7 @@ path_of (ByMoved epoch) = Some (Moved epoch)
 path_of ByTelling = None
 path_of ByFinishing = None
 
+-- what was learned in a step
 abbrev pub found : Place → Learning → Found
 found place l = record { place = place; id = l.id; outcome = l.outcome; own_path = path_of l.way }
 
@@ -63,11 +64,13 @@ found_in_log round c entry setting column (step ∷ steps) =
     map (found (InLog round c entry)) (learned_in_step setting column step)
     ++ found_in_log round c (entry + 1) setting (column_after setting column step) steps
 
+-- what is found along the logs of these columns, the first of which has this number
 abbrev pub found_in_logs : ℕ → Setting → RoundLog → ℕ → List ColumnState → List Found
 found_in_logs number setting round c [] = []
 found_in_logs number setting round c (column ∷ columns) =
     found_in_log number c 1 setting column (log_of round c) ++ found_in_logs number setting round (c + 1) columns
 
+-- what an Enter teaches of one attempt
 abbrev pub found_by_enter : Place → ℕ → TxnId × Outcome → Found
 found_by_enter place epoch fate = record { place = place; id = fate.0; outcome = fate.1; own_path = Some (Epoch epoch) }
 
@@ -84,10 +87,12 @@ abbrev pub entered_after : GlobalAnswer → List ℕ → GlobalLine → List ℕ
 entered_after answer entered (Enter epoch) = if is_accepted answer then epoch ∷ entered else entered
 entered_after answer entered _ = entered
 
+-- the epochs that were entered after these lines
 abbrev pub entered_through : List ℕ → List GlobalEntry → List ℕ
 entered_through entered [] = entered
 entered_through entered (line ∷ lines) = entered_through (entered_after line.answer entered line.line) lines
 
+-- what is found along a round's global lines, from this entry on
 abbrev pub found_in_globals : ℕ → ℕ → History → WholeState → List ℕ → List GlobalEntry → List Found
 found_in_globals number entry run state entered [] = []
 found_in_globals number entry run state entered (line ∷ lines) =
@@ -100,12 +105,14 @@ found_in_round number run state entered round =
     found_in_logs number (setting_of run state) round 0 state.columns
     ++ found_in_globals number 1 run (after_logs run round state) entered round.globals
 
+-- what is found along these rounds, the first of which has this number
 abbrev pub found_from : ℕ → History → WholeState → List ℕ → List RoundLog → List Found
 found_from number run state entered [] = []
 found_from number run state entered (round ∷ rounds) =
     found_in_round number run state entered round
     ++ found_from (number + 1) run (after_round run round state) (entered_through entered round.globals) rounds
 
+-- what is found along the run
 abbrev pub all_found : History → List Found
 all_found run = found_from 1 run (first_state run) [] run.rounds
 
@@ -114,6 +121,7 @@ abbrev pub first_path : TxnId → List Found → Option Path
 first_path id [] = None
 first_path id (f ∷ rest) = if same_id f.id id then option_or f.own_path (first_path id rest) else first_path id rest
 
+-- a member with its own path, or with that of the first
 abbrev pub with_path : List Found → Found → Learnt
 with_path all f =
     record { place = f.place; id = f.id; outcome = f.outcome; path = unwrap_or (option_or f.own_path (first_path f.id all)) Fast }
@@ -126,6 +134,7 @@ learned run = map (with_path (all_found run)) (all_found run)
 abbrev pub first_learned : TxnId → List Learnt → Option Learnt
 first_learned id learnings = find (λ l. same_id l.id id) learnings
 
+-- the transactions of these attempts
 abbrev pub stamped_in : List AttemptState → List Transaction
 stamped_in [] = []
 stamped_in (attempt ∷ attempts) = with_txn attempt.txn (stamped_in attempts)
@@ -139,9 +148,11 @@ abbrev pub stamped_by : List ColumnState → List Transaction
 stamped_by [] = []
 stamped_by (column ∷ columns) = stamped_in column.attempts ++ stamped_by columns
 
+-- a commit of this attempt was learned
 abbrev pub is_learned_commit : TxnId → Learnt → Bool
 is_learned_commit id l = same_id l.id id && is_commit l.outcome
 
+-- those of the transactions whose commit was learned, in order of stamp
 abbrev pub committed : List Learnt → List Transaction → List Transaction
 committed learnings txns = in_stamp_order (filter (λ txn. list_any (is_learned_commit txn.id) learnings) txns)
 

@@ -19,10 +19,12 @@ abbrev pub left_by_pick : ℕ → TakeoverState → Pick → Left
 left_by_pick f takeover (PickUnclear ok not_ok) = Unclear ok not_ok
 left_by_pick f takeover _ = Short (count_slots (members f) is_promise takeover.told)
 
+-- a takeover that proposed has too few accepts
 abbrev pub left_in_takeover : ℕ → TakeoverState → Option Outcome → Left
 left_in_takeover f takeover (Some outcome) = Unaccepted (count_accepts f takeover.accepts)
 left_in_takeover f takeover None = left_by_pick f takeover (pick f takeover)
 
+-- an own coordinator that proposed has too few accepts, and any other too few votes
 abbrev pub left_in_coord : ℕ → CoordState → Option Outcome → Left
 left_in_coord f coord (Some outcome) = Unaccepted (count_accepts f coord.accepts)
 left_in_coord f coord None = Short (count_slots (members f) any_vote coord.votes)
@@ -32,6 +34,7 @@ abbrev pub last_takeover : TxnId → List TakeoverOf → Option TakeoverOf
 last_takeover id [] = None
 last_takeover id (t ∷ rest) = option_or (last_takeover id rest) (if same_id t.id id then Some t else None)
 
+-- the last takeover decides where there is one
 abbrev pub left_unless_taken_over : ℕ → AttemptState → Option TakeoverOf → Left
 left_unless_taken_over f attempt (Some takeover) = left_in_takeover f takeover.state takeover.state.proposed
 left_unless_taken_over f attempt None =

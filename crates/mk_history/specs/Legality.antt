@@ -24,6 +24,7 @@ pub record IsLegalRound (run : History) (round : RoundLog) (state : WholeState) 
   pub matched : IsMatched run round
   pub globals : EachGlobalAnswered run (after_logs run round state) round.globals
 
+-- each of these rounds is legal in its turn
 abbrev pub EachRoundLegal : History → WholeState → List RoundLog → Type 0
 EachRoundLegal run state [] = Unit {0}
 EachRoundLegal run state (round ∷ rounds) = IsLegalRound run round state × EachRoundLegal run (after_round run round state) rounds

@@ -8,4 +8,5 @@ pub mod Learning
 pub mod Leaving
 pub mod Naming
 pub mod Deciding
+pub mod Teaching
 pub mod Safety

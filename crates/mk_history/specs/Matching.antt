@@ -15,6 +15,7 @@ pub record Turn : Type 0 where
   pub act : Act
   pub answer : Answer
 
+-- a key step counts where it is at this key of this replica
 abbrev pub with_turn : ℕ → ℕ → KeyCall → Answer → List Turn → List Turn
 with_turn r key call answer turns =
     if call.replica == r && call.key == key then record { act = call.act; answer = answer } ∷ turns else turns

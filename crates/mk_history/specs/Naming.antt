@@ -70,6 +70,7 @@ pub record IsConflictOf (run : History) (id : TxnId) (conflict : Conflict) : Typ
   pub same_attempt : txn.id ≡ id
   pub refusal : IsRefusalOf run txn conflict
 
+-- the cause of an outcome names what happened
 abbrev pub IsNamed : History → TxnId → Outcome → Type 0
 IsNamed run id Commit = Unit {0}
 IsNamed run id (Abort (ByConflict conflict)) = IsConflictOf run id conflict

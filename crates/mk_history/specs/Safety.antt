@@ -22,6 +22,7 @@ use Rattle.mk_history.specs.Naming.{EachNamed}
 abbrev pub Agree : List Learnt → Type 0
 Agree learnings = (a b : Learnt) → Among a learnings → Among b learnings → a.id ≡ b.id → agrees a.outcome b.outcome ≡ true
 
+-- the transactions with stamps below this one
 abbrev pub below : Stamp → List Transaction → List Transaction
 below stamp txns = filter (λ txn. is_before txn.stamp stamp) txns
 
@@ -45,6 +46,7 @@ abbrev pub MarksCoverSettled : History → Type 0
 MarksCoverSettled run =
     (base : MadeBase) (id : TxnId) → Among base (last_state run).epochs.made → 1 ≤ id.seq → covers base.base.marks id ≡ true → IsSettled run id
 
+-- agreement, the one copy, causes and marks
 pub record IsSafe (run : History) : Type 0 where
   pub agree : Agree (learned run)
   pub explained : Explained (commits run)

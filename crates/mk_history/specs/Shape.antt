@@ -31,9 +31,11 @@ abbrev pub value_fits : History → Value → Bool
 value_fits run (Number n) = nat_lt n (2 ^ 64)
 value_fits run Absent = run.version == 2
 
+-- the stamp's time and client are in range
 abbrev pub stamp_fits : Stamp → Bool
 stamp_fits stamp = nat_le stamp.time (2 ^ 62) && nat_le stamp.client 64
 
+-- the stamps and the value of an act are in range
 abbrev pub act_in_range : History → Act → Bool
 act_in_range run Get = true
 act_in_range run (CheckRead ts version) = stamp_fits ts && stamp_fits version
@@ -43,6 +45,7 @@ act_in_range run (CommitWrite ts value) = stamp_fits ts && value_fits run value
 act_in_range run (ReleaseRead ts) = stamp_fits ts
 act_in_range run (ReleaseWrite ts) = stamp_fits ts
 
+-- the stamp and the value of an answer are in range
 abbrev pub answer_in_range : History → Answer → Bool
 answer_in_range run (Version version value) = stamp_fits version && value_fits run value
 answer_in_range run (Refused reason stamp) = stamp_fits stamp
@@ -53,15 +56,19 @@ answer_in_range run Done = true
 abbrev pub turn_fits : History → Act → Answer → Bool
 turn_fits run act answer = answer_fits act answer && act_in_range run act && answer_in_range run answer
 
+-- the client has a name
 abbrev pub client_fits : History → ℕ → Bool
 client_fits run client = nat_le 1 client && nat_le client (length run.client_names)
 
+-- the attempt's client has a name, and its place is one that an attempt can have
 abbrev pub id_fits : History → TxnId → Bool
 id_fits run id = client_fits run id.client && nat_le 1 id.seq && nat_le id.seq 16384
 
+-- the key has a name
 abbrev pub key_fits : History → ℕ → Bool
 key_fits run key = nat_lt key (length run.key_names)
 
+-- there is such a replica
 abbrev pub replica_fits : History → ℕ → Bool
 replica_fits run replica = nat_lt replica (members run.faults)
 
@@ -69,9 +76,11 @@ replica_fits run replica = nat_lt replica (members run.faults)
 abbrev pub view_fits : ℕ → Bool
 view_fits view = nat_le 1 view && nat_le view 15
 
+-- the key has a name, and the value is in range
 abbrev pub write_fits : History → WriteItem → Bool
 write_fits run item = key_fits run item.key && value_fits run item.value
 
+-- every number of a step is in range
 abbrev pub step_fits : History → Step → Bool
 step_fits run (Begin client replica) = client_fits run client && replica_fits run replica
 step_fits run (Unread client) = client_fits run client
@@ -90,6 +99,7 @@ step_fits run (Stop id) = id_fits run id
 abbrev pub entry_fits : History → JournalEntry → Bool
 entry_fits run entry = nat_lt entry.seat run.columns && turn_fits run entry.act entry.answer
 
+-- a global line with its numbers in range, and an answer of a kind that it can have
 abbrev pub global_fits : History → GlobalEntry → Bool
 global_fits run entry = line_fits (members run.faults) entry.line && can_answer entry.line entry.answer
 
@@ -108,6 +118,7 @@ begins_of client (Begin number replica) = number == client
 begins_of client (Unread number) = number == client
 begins_of client _ = false
 
+-- how many attempts of this client the logs of a round begin
 abbrev pub begins_in : ℕ → RoundLog → ℕ
 begins_in client round = sum (map (count_by (begins_of client)) round.logs)
 

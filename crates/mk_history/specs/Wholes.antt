@@ -24,6 +24,7 @@ pub record WholeState : Type 0 where
   pub cells : List (List CellState)
   pub epochs : EpochState
 
+-- the state before the first round
 abbrev pub first_state : History → WholeState
 first_state run =
     record {
@@ -36,9 +37,11 @@ first_state run =
 abbrev pub setting_of : History → WholeState → Setting
 setting_of run state = record { version = run.version; faults = run.faults; keys = length run.key_names; views = views_of state.epochs }
 
+-- the column of this number
 abbrev pub column_of : WholeState → ℕ → ColumnState
 column_of state c = slice_index_or state.columns c (new_column 0 [])
 
+-- the cell of this key at this replica
 abbrev pub cell_of : WholeState → ℕ → ℕ → CellState
 cell_of state r key = slice_index_or (slice_index_or state.cells r []) key first_cell
 
@@ -54,6 +57,7 @@ keys_after_journals round r key [] = []
 keys_after_journals round r key (cell ∷ cells) =
     cell_through cell (journal_of round r key) ∷ keys_after_journals round r (key + 1) cells
 
+-- the cells of these replicas after their journals, the first of which has this number
 abbrev pub cells_after_journals : RoundLog → ℕ → List (List CellState) → List (List CellState)
 cells_after_journals round r [] = []
 cells_after_journals round r (keys ∷ cells) = keys_after_journals round r 0 keys ∷ cells_after_journals round (r + 1) cells
@@ -66,6 +70,7 @@ after_logs run round state =
       cells = cells_after_journals round 0 state.cells;
     }
 
+-- the base's cells of all keys
 abbrev pub rebuilt_cells : ℕ → BaseState → List CellState
 rebuilt_cells keys base = map (rebuilt base) (numbers_from 0 keys)
 
@@ -77,6 +82,7 @@ restarted run r base state =
       cells = slice_set state.cells r (rebuilt_cells (length run.key_names) base);
     }
 
+-- what a line that was done changes beside the epoch machine
 abbrev pub after_line : History → GlobalLine → WholeState → WholeState
 after_line run (Wipe r) state = restarted run r empty_base state
 after_line run (Adopt epoch r) state = restarted run r (base_or_empty (made_for epoch state.epochs)) state
@@ -89,6 +95,7 @@ after_line run (Enter epoch) state = state
 abbrev pub entries_of : List ColumnState → ℕ → List Entry
 entries_of columns r = flat_map (λ column. entries_at column r) columns
 
+-- of each client the greatest mark that a column has at this replica
 abbrev pub marks_of : List ColumnState → ℕ → MarkMap
 marks_of columns r = fold (λ marks column. joined_marks marks (marks_at column r)) [] columns
 
@@ -103,6 +110,7 @@ after_global run state entry =
     let parts = if is_accepted entry.answer then after_line run entry.line state else state in
     record parts { epochs = global_outcome state.epochs (handed_in state entry.line) entry.line entry.answer }
 
+-- the state to which global lines lead
 abbrev pub globals_through : History → WholeState → List GlobalEntry → WholeState
 globals_through run state [] = state
 globals_through run state (entry ∷ entries) = globals_through run (after_global run state entry) entries
@@ -113,6 +121,7 @@ after_round run round state =
     let ended = globals_through run (after_logs run round state) round.globals in
     record ended { columns = map reading_ended ended.columns }
 
+-- the state to which rounds lead
 abbrev pub state_through : History → WholeState → List RoundLog → WholeState
 state_through run state [] = state
 state_through run state (round ∷ rounds) = state_through run (after_round run round state) rounds

@@ -11,6 +11,7 @@ use Rattle.mk_txn.specs.Transactions.{Transaction, same_id, id_before}
 use Rattle.mk_trim.specs.Keeping.{KnownFate, KeptOutcomes, known_by, uncovered}
 use Rattle.mk_merge.specs.declared.Fated.{Fated}
 
+-- a list of transactions with their outcomes, and a map of marks
 pub record BaseState : Type 0 where
   pub list : List Fated
   pub marks : MarkMap
@@ -19,6 +20,7 @@ pub record BaseState : Type 0 where
 abbrev pub empty_base : BaseState
 empty_base = record { list = []; marks = [] }
 
+-- a transaction with its outcome
 abbrev pub fated : Transaction → Outcome → Fated
 fated txn outcome = record { txn = txn; outcome = outcome }
 
@@ -65,15 +67,18 @@ placed_by_id txn (first ∷ rest) =
     then first ∷ placed_by_id txn rest
     else if same_id first.id txn.id then first ∷ rest else txn ∷ (first ∷ rest)
 
+-- each number once, in order
 abbrev pub in_id_order : List Transaction → List Transaction
 in_id_order [] = []
 in_id_order (txn ∷ txns) = placed_by_id txn (in_id_order txns)
 
+-- placed in order of stamp
 abbrev pub placed_by_stamp : Transaction → List Transaction → List Transaction
 placed_by_stamp txn [] = txn ∷ []
 placed_by_stamp txn (first ∷ rest) =
     if is_before first.stamp txn.stamp then first ∷ placed_by_stamp txn rest else txn ∷ (first ∷ rest)
 
+-- the same transactions in order of stamp
 abbrev pub in_stamp_order : List Transaction → List Transaction
 in_stamp_order [] = []
 in_stamp_order (txn ∷ txns) = placed_by_stamp txn (in_stamp_order txns)

@@ -75,6 +75,7 @@ abbrev pub fate_by : ℕ → Transaction → List Transaction → Option Outcome
 fate_by epoch txn commits (Some outcome) = outcome
 fate_by epoch txn commits None = if list_any (λ c. same_id c.id txn.id) commits then Commit else Abort (ByEpoch epoch)
 
+-- every reported transaction with its fate, given the commits that were taken
 abbrev pub fates_by : ℕ → ℕ → List PromiseState → List Transaction → List Fated
 fates_by f epoch promises commits =
     map (λ txn. fated txn (fate_by epoch txn commits (settled_fate f promises txn.id))) (reported_txns promises)

@@ -37,6 +37,7 @@ chosen f epoch promises =
 abbrev pub can_merge : ℕ → ℕ → List PromiseState → Bool
 can_merge f epoch promises = nat_le (majority_of f) (length promises) && list_any (is_leaders f epoch) promises
 
+-- the highest epoch that one of these promises has adopted
 abbrev pub highest_adopted : List PromiseState → ℕ
 highest_adopted [] = 0
 highest_adopted (p ∷ promises) = max p.adopted (highest_adopted promises)

@@ -8,6 +8,7 @@ use Rattle.mk_msg.specs.declared.Msg.{Msg}
 use Rattle.mk_msg.specs.declared.Body.{Body}
 use Rattle.mk_msg.specs.declared.Body.TheVariants.{Validate as ValidateBody, Voted, Accept as AcceptBody, Accepted as AcceptedBody, Decide as DecideBody, Ask as AskBody, Told as ToldBody, Moved as MovedBody}
 
+-- the kind of what a message says
 abbrev pub kind_of : Body → MsgKind
 kind_of (ValidateBody mark) = Validate
 kind_of (Voted vote) = Vote
@@ -29,6 +30,7 @@ kind_number Ask = 5
 kind_number Told = 6
 kind_number Moved = 7
 
+-- whether two kinds are equal
 abbrev pub same_kind : MsgKind → MsgKind → Bool
 same_kind a b = kind_number a == kind_number b
 
@@ -44,6 +46,7 @@ count_of link kind id replica = length (filter (is_of kind id replica) link)
 abbrev pub message : List Msg → ℕ → Option Msg
 message link number = if nat_le 1 number then slice_get link (number - 1) else None
 
+-- how many of the message's kind, attempt and replica there are
 abbrev pub place_in : List Msg → Msg → ℕ
 place_in upto msg = count_of upto (kind_of msg.body) msg.id msg.replica
 

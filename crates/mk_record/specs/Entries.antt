@@ -14,6 +14,7 @@ use Rattle.mk_record.specs.declared.RecordError.TheVariants.{Finished, OldView}
 abbrev pub opened : Transaction → Entry
 opened txn = record { txn = txn; view = 0; vote = None; accepted = None; last = None }
 
+-- the entry is of this attempt
 abbrev pub is_entry_of : TxnId → Entry → Bool
 is_entry_of id entry = same_id entry.txn.id id
 
@@ -29,9 +30,11 @@ HasDistinctIds entries = AllDistinct (map (λ entry. entry.txn.id) entries)
 abbrev pub change_entry : TxnId → (Entry → Entry) → List Entry → List Entry
 change_entry id f entries = change (is_entry_of id) f entries
 
+-- the vote is set
 abbrev pub with_vote : Vote → Entry → Entry
 with_vote vote entry = record entry { vote = Some vote }
 
+-- the view is promised
 abbrev pub with_promise : ℕ → Entry → Entry
 with_promise view entry = record entry { view = view }
 
@@ -39,6 +42,7 @@ with_promise view entry = record entry { view = view }
 abbrev pub with_accepted : ℕ → Outcome → Entry → Entry
 with_accepted view outcome entry = record entry { view = view; accepted = Some (record { view = view; outcome = outcome }) }
 
+-- the entry becomes final
 abbrev pub with_last : Outcome → Entry → Entry
 with_last outcome entry = record entry { last = Some outcome }
 
@@ -46,6 +50,7 @@ with_last outcome entry = record entry { last = Some outcome }
 abbrev pub may_vote : Entry → Bool
 may_vote entry = entry.view == 0 && is_none entry.vote && is_none entry.accepted && is_none entry.last
 
+-- the final outcome refuses first, and then a higher view
 abbrev pub refusal_unless_final : ℕ → Entry → Option Outcome → Option RecordError
 refusal_unless_final view entry (Some outcome) = Some (Finished outcome)
 refusal_unless_final view entry None = if nat_lt view entry.view then Some (OldView entry.view) else None

@@ -21,6 +21,7 @@ pub record TakeoverState : Type 0 where
   pub proposed : Option Outcome
   pub learned : Option Outcome
 
+-- a takeover that has taken nothing
 abbrev pub new_takeover : ℕ → ℕ → TakeoverState
 new_takeover f view =
     record { view = view; told = empty_slots (members f); accepts = empty_slots (members f); proposed = None; learned = None }
@@ -38,6 +39,7 @@ reply_counted r told takeover =
 abbrev pub accept_counted : ℕ → TakeoverState → TakeoverState
 accept_counted r takeover = record takeover { accepts = filled takeover.accepts r true }
 
+-- a takeover that has proposed
 abbrev pub takeover_proposed : Outcome → TakeoverState → TakeoverState
 takeover_proposed outcome takeover = record takeover { proposed = Some outcome }
 
@@ -45,9 +47,11 @@ takeover_proposed outcome takeover = record takeover { proposed = Some outcome }
 abbrev pub is_promise : Told → Bool
 is_promise told = is_none told.last
 
+-- a promise with an Ok vote
 abbrev pub is_ok_promise : Told → Bool
 is_ok_promise told = is_promise told && passes is_ok_vote told.vote
 
+-- a promise without an Ok vote
 abbrev pub is_other_promise : Told → Bool
 is_other_promise told = is_promise told && not (passes is_ok_vote told.vote)
 
@@ -81,10 +85,12 @@ abbrev pub by_accepts : ℕ → Outcome → List (Option Bool) → Pick
 by_accepts f outcome accepts =
     if nat_le (majority_of f) (count_accepts f accepts) then Learned outcome else Unaccepted (count_accepts f accepts)
 
+-- after a proposal its accepts are counted, and else the promises
 abbrev pub unless_proposed : ℕ → TakeoverState → Option Outcome → Pick
 unless_proposed f takeover (Some outcome) = by_accepts f outcome takeover.accepts
 unless_proposed f takeover None = by_promises f takeover
 
+-- an outcome that was taught is the pick
 abbrev pub unless_learned : ℕ → TakeoverState → Option Outcome → Pick
 unless_learned f takeover (Some outcome) = Known outcome
 unless_learned f takeover None = unless_proposed f takeover takeover.proposed

@@ -18,6 +18,7 @@ pub record KeptOutcomes : Type 0 where
   pub outcomes : List KnownFate
   pub marks : MarkMap
 
+-- no outcomes, and all marks 0
 abbrev pub nothing_kept : KeptOutcomes
 nothing_kept = record { outcomes = []; marks = [] }
 
@@ -25,6 +26,7 @@ nothing_kept = record { outcomes = []; marks = [] }
 abbrev pub outcome_in : List KnownFate → TxnId → Option Outcome
 outcome_in outcomes id = option_map (λ fate. fate.1) (find (λ fate. same_id fate.0 id) outcomes)
 
+-- an outcome where there is one, and else absence
 abbrev pub known_outcome : Option Outcome → Known
 known_outcome (Some outcome) = KnownOutcome outcome
 known_outcome None = Absent
@@ -62,9 +64,11 @@ with_marks marks kept =
       marks = joined_marks kept.marks marks;
     }
 
+-- how many of these outcomes are commits
 abbrev pub commits_among : List KnownFate → ℕ
 commits_among outcomes = length (filter (λ fate. is_commit fate.1) outcomes)
 
+-- how many of these outcomes are aborts
 abbrev pub aborts_among : List KnownFate → ℕ
 aborts_among outcomes = length (filter (λ fate. not (is_commit fate.1)) outcomes)
 

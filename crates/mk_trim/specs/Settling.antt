@@ -14,6 +14,7 @@ abbrev pub greatest_upto : (ℕ → Bool) → ℕ → ℕ
 greatest_upto p zero = 0
 greatest_upto p (suc most) = if all_upto p (suc most) then suc most else greatest_upto p most
 
+-- the attempt is among those that are settled
 abbrev pub is_settled : List TxnId → TxnId → Bool
 is_settled settled id = list_any (same_id id) settled
 

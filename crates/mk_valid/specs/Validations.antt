@@ -19,14 +19,17 @@ pub record ValidationState : Type 0 where
 abbrev pub validation_of : Transaction → ValidationState
 validation_of txn = record { passed = []; left = checks txn; refusal = None; releases = [] }
 
+-- the first of these acts
 abbrev pub first_of : List KeyAct → Option KeyAct
 first_of [] = None
 first_of (act ∷ acts) = Some act
 
+-- the acts behind the first
 abbrev pub rest_of : List KeyAct → List KeyAct
 rest_of [] = []
 rest_of (act ∷ acts) = acts
 
+-- a check is next until one is refused, and then a release
 abbrev pub next_by : ValidationState → Option Conflict → Option KeyAct
 next_by state None = first_of state.left
 next_by state (Some conflict) = first_of state.releases
@@ -47,10 +50,12 @@ after_check state check rest (Refused reason stamp) =
 after_check state check rest (Version version value) = state
 after_check state check rest Done = state
 
+-- the check that was next is answered
 abbrev pub after_left : ValidationState → List KeyAct → Answer → ValidationState
 after_left state [] answer = state
 after_left state (check ∷ rest) answer = after_check state check rest answer
 
+-- a check is answered until one is refused, and then a release
 abbrev pub after_by : ValidationState → Answer → Option Conflict → ValidationState
 after_by state answer None = after_left state state.left answer
 after_by state answer (Some conflict) = record state { releases = rest_of state.releases }
@@ -59,6 +64,7 @@ after_by state answer (Some conflict) = record state { releases = rest_of state.
 abbrev pub after_answer : ValidationState → Answer → ValidationState
 after_answer state answer = after_by state answer state.refusal
 
+-- a refusal votes for abort, and names what refused
 abbrev pub vote_by : Option Conflict → Vote
 vote_by None = VoteOk
 vote_by (Some conflict) = VoteAbort conflict
@@ -67,6 +73,7 @@ vote_by (Some conflict) = VoteAbort conflict
 abbrev pub vote_of : ValidationState → Vote
 vote_of state = vote_by state.refusal
 
+-- no vote while an act is left
 abbrev pub vote_unless_left : ValidationState → Option KeyAct → Option Vote
 vote_unless_left state (Some act) = None
 vote_unless_left state None = Some (vote_of state)
