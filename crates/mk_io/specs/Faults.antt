@@ -1,4 +1,4 @@
--- Counts of faults. A count that stands at its last value can't go on, and counts as risen.
+-- Counts of faults and of calls, which end at 2^64 - 1.
 use Rattle.std.specs.Prelude.{ℕ, ◌+◌, ◌-◌, ◌^◌, ◌≤◌, min}
 
 -- the last value of a count
@@ -9,6 +9,6 @@ last_count = 2 ^ 64 - 1
 abbrev pub one_more : ℕ → ℕ
 one_more count = min (count + 1) last_count
 
--- the count rose, or stands at its last value
+-- the count rose; one that stands at its last value counts as risen
 abbrev pub HasRisen : ℕ → ℕ → Type 0
 HasRisen old new = one_more old ≤ new

@@ -12,6 +12,8 @@ mod adapters;
 mod calls;
 mod memory;
 mod sure;
+#[cfg(test)]
+mod tests;
 mod whole;
 
 pub use adapters::{StdSink, StdSource};
@@ -25,7 +27,7 @@ pub struct Failed;
 
 /// What bytes are read from.
 pub trait Source {
-    /// How many faults there were so far, below 2^64.
+    /// How many faults there were so far. The count stands still at 2^64 - 1.
     ghost faults: { Self → ℕ };
 
     /// The bytes that are left, where they are known.
@@ -42,7 +44,7 @@ pub trait Source {
 
 /// What bytes are written to.
 pub trait Sink {
-    /// How many faults there were so far, below 2^64.
+    /// How many faults there were so far. The count stands still at 2^64 - 1.
     ghost faults: { Self → ℕ };
 
     /// The bytes that it holds, where they are known.
@@ -60,7 +62,7 @@ pub trait Sink {
 
 /// A replica's durable register: its number outlives a loss of the replica's memory.
 pub trait EpochWord {
-    /// How many faults there were so far, below 2^64.
+    /// How many faults there were so far. The count stands still at 2^64 - 1.
     ghost faults: { Self → ℕ };
 
     /// The number that it keeps.
