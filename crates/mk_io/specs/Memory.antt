@@ -1,5 +1,5 @@
 -- What a contract sees of the sources, sinks and words in memory, and what a call of them answers and leaves.
-use Rattle.std.specs.Prelude.{ℕ, ◌-◌, ◌==◌, ◌&&◌, ◌||◌, nat_lt, Bool, List, ◌++◌, length, take, drop, min, if◌then◌else◌}
+use Rattle.std.specs.Prelude.{ℕ, ◌-◌, ◌==◌, ◌&&◌, ◌||◌, nat_lt, Bool, List, ◌++◌, length, drop, min}
 use Rattle.mk_io.specs.Calls.{Calls, is_next_listed, with_call, with_fault}
 
 -- the bytes that are left, and how many a call gives at most

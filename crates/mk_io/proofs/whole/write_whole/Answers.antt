@@ -1,4 +1,4 @@
-use Rattle.std.proofs.Common.{◌≤◌, ◌++◌, arith, rules, take}
+use Rattle.std.proofs.Common.{◌++◌, arith, rules, take}
 use Rattle.std.proofs.KnownBytes.{Appends-trans}
 use Rattle.std.proofs.lemmas.Result.{err_from_is_err_and}
 use Rattle.mk_io.proofs.WholeLaws.{AppendsPart-after_failure, split-more}
