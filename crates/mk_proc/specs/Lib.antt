@@ -1,0 +1,2 @@
+-- The values of procedures.
+pub mod Procedures
