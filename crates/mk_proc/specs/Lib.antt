@@ -1,2 +1,3 @@
--- The values of procedures.
+-- Items, and the values of procedures.
+pub mod Items
 pub mod Procedures
