@@ -12,23 +12,26 @@ pub record VersionedValue : Type 0 where
   pub version : Stamp
   pub value : Value
 
+-- what every key holds at first
 abbrev pub first_version : VersionedValue
 first_version = record { version = zero_stamp; value = initial_value }
 
--- the write of this key, where it is later than what stands
+-- the write of this key, unless a later one stands
 abbrev pub after_write : ℕ → Stamp → VersionedValue → WriteItem → VersionedValue
 after_write key stamp latest item =
-    if item.key == key then (if is_before latest.version stamp then record { version = stamp; value = item.value } else latest) else latest
+    if item.key == key then (if is_before stamp latest.version then latest else record { version = stamp; value = item.value }) else latest
 
+-- the same for each of these writes, in order of mention
 abbrev pub after_writes : ℕ → Stamp → VersionedValue → List WriteItem → VersionedValue
 after_writes key stamp latest [] = latest
 after_writes key stamp latest (item ∷ items) = after_writes key stamp (after_write key stamp latest item) items
 
--- the latest write of this key, where it is later than what stands
+-- the latest write of this key, or what stands where that is later
 abbrev pub latest_write : ℕ → VersionedValue → List Transaction → VersionedValue
 latest_write key latest [] = latest
 latest_write key latest (txn ∷ txns) = latest_write key (after_writes key txn.stamp latest txn.writes) txns
 
+-- whether the transaction reads this key
 abbrev pub reads_key : ℕ → Transaction → Bool
 reads_key key txn = list_any (λ item. item.key == key) txn.reads
 

@@ -1,5 +1,5 @@
 -- Marks: for each client the place up to which its attempts are known to need no more telling, and 0 where there is none.
-use Rattle.std.specs.Prelude.{◌≡◌, ◌<◌, ℕ, Bool, true, ◌==◌, nat_lt, nat_le, max, List, [], ◌∷◌, fold, if◌then◌else◌}
+use Rattle.std.specs.Prelude.{◌<◌, ℕ, Bool, ◌==◌, nat_lt, nat_le, max, List, [], ◌∷◌, fold, if◌then◌else◌}
 use Rattle.mk_lists.specs.Among.{Each}
 use Rattle.mk_txn.specs.declared.TxnId.{TxnId}
 
@@ -7,6 +7,7 @@ use Rattle.mk_txn.specs.declared.TxnId.{TxnId}
 abbrev pub MarkMap : Type 0
 MarkMap = List (ℕ × ℕ)
 
+-- the mark of a client, 0 where it has none
 abbrev pub mark_of : MarkMap → ℕ → ℕ
 mark_of [] client = 0
 mark_of (first ∷ rest) client = if first.0 == client then first.1 else mark_of rest client
@@ -31,6 +32,7 @@ joined_marks marks more = fold (λ all mark. raised mark.0 mark.1 all) marks mor
 abbrev pub covers : MarkMap → TxnId → Bool
 covers marks id = nat_le id.seq (mark_of marks id.client)
 
+-- what every map of marks keeps, so that equal marks make equal maps
 abbrev pub IsMarkMap : MarkMap → Type 0
 IsMarkMap [] = Unit {0}
 IsMarkMap (first ∷ rest) = (0 < first.1) × Each (λ later. first.0 < later.0) rest × IsMarkMap rest

@@ -1,6 +1,8 @@
 -- A transaction, as contracts see it.
-use Rattle.std.specs.Prelude.{◌≡◌, ◌≢◌, ◌≤◌, ℕ, Bool, true, ◌==◌, ◌&&◌, ◌||◌, not, nat_lt, List, [], ◌∷◌, map, length}
+use Rattle.std.specs.Prelude.{◌≡◌, ◌≤◌, ℕ, Bool, true, ◌==◌, ◌&&◌, ◌||◌, not, nat_lt, List, [], ◌∷◌, map, length}
 use Rattle.std.specs.List.{list_any, list_all}
+use Rattle.std.specs.declared.cmp.Ordering.{Ordering}
+use Rattle.std.specs.Ordering.{nat_cmp, ordering_then}
 use Rattle.mk_lists.specs.Among.{Among}
 use Rattle.mk_txn.specs.declared.Stamp.{Stamp}
 use Rattle.mk_txn.specs.declared.TxnId.{TxnId}
@@ -14,12 +16,14 @@ use Rattle.mk_txn.specs.Stamps.{is_before}
 abbrev pub initial_value : Value
 initial_value = Number 0
 
+-- the number, the stamp, what was read and what is to be written
 pub record Transaction : Type 0 where
   pub id : TxnId
   pub stamp : Stamp
   pub reads : List ReadItem
   pub writes : List WriteItem
 
+-- whether two numbers name one attempt
 abbrev pub same_id : TxnId → TxnId → Bool
 same_id a b = a.client == b.client && a.seq == b.seq
 
@@ -27,9 +31,15 @@ same_id a b = a.client == b.client && a.seq == b.seq
 abbrev pub id_before : TxnId → TxnId → Bool
 id_before a b = nat_lt a.client b.client || (a.client == b.client && nat_lt a.seq b.seq)
 
+-- what comparing two numbers of attempts answers
+abbrev pub id_cmp : TxnId → TxnId → Ordering
+id_cmp a b = ordering_then (nat_cmp a.client b.client) (nat_cmp a.seq b.seq)
+
+-- the keys of reads, in order of mention
 abbrev pub read_keys : List ReadItem → List ℕ
 read_keys items = map (λ item. item.key) items
 
+-- the keys of writes, in order of mention
 abbrev pub write_keys : List WriteItem → List ℕ
 write_keys items = map (λ item. item.key) items
 

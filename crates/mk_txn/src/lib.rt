@@ -1,7 +1,24 @@
 //! Stamps, values, transactions, votes and outcomes: the words that the whole store speaks in.
 #![tactic(auto)]
 
-use std::alloc::AllocError;
+use std::alloc::{AllocError, AllocFailed};
+
+mod clashing;
+mod faults;
+mod marking;
+mod stamping;
+#[cfg(test)]
+mod tests;
+mod transaction;
+
+pub use clashing::conflicts;
+pub use faults::TxnError;
+pub use marking::Marks;
+pub use stamping::{id_precedes, later, next_stamp, precedes, same_id, same_stamp};
+pub use transaction::Txn;
+
+/// The greatest time of a stamp, 2^62.
+pub const LAST_TIME: u64 = 4_611_686_018_427_387_904;
 
 /// What a key holds: a number, or nothing since it was deleted.
 #[derive(Clone, Copy, Debug, PartialEq, Eq)]
@@ -11,14 +28,14 @@ pub enum Value {
 }
 
 /// A point in the order of transactions: a time, and the client's number where times tie.
-#[derive(Clone, Copy, Debug, PartialEq, Eq)]
+#[derive(Clone, Copy, Debug, PartialEq, Eq, PartialOrd, Ord)]
 pub struct Stamp {
     pub time: u64,
     pub client: u32,
 }
 
 /// The number of an attempt: its client, and its place among that client's attempts, from 1.
-#[derive(Clone, Copy, Debug, PartialEq, Eq)]
+#[derive(Clone, Copy, Debug, PartialEq, Eq, PartialOrd, Ord)]
 pub struct TxnId {
     pub client: u32,
     pub seq: u32,
@@ -107,6 +124,12 @@ pub struct NoMemory;
 
 impl From<AllocError> for NoMemory {
     fn from(_: AllocError) -> NoMemory {
+        NoMemory
+    }
+}
+
+impl<T: Drop> From<AllocFailed<T>> for NoMemory {
+    fn from(_: AllocFailed<T>) -> NoMemory {
         NoMemory
     }
 }

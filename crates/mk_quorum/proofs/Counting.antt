@@ -1,0 +1,45 @@
+-- Counts over one more number, over fewer, and over sets of replicas.
+use Rattle.std.proofs.Common.{◌≡◌, ◌≢◌, ◌∙◌, ◌<◌, ◌≤◌, ◌+◌, ℕ, zero, suc, Bool, true, false, refl, sym, ap, arith, List, [], ◌∷◌, length, count_by, if◌then◌else◌, slice_index_or, slice_set, replicate, get_or, zero-add}
+use Rattle.std.proofs.lemmas.Bool.Decides.{nat_tests}
+use Rattle.std.proofs.lemmas.List.Recursion.{is_count_by}
+use Rattle.mk_quorum.specs.Counts.{count_below}
+use Rattle.mk_quorum.specs.ReplicaSets.{no_replicas, has_replica, with_replica, number_of}
+
+-- no count is above the number of numbers
+pub count_below-at_most : (n : ℕ) (p : ℕ → Bool) → count_below n p ≤ n
+count_below-at_most zero p = omega arith
+count_below-at_most (suc n) p = grind (arith, count_below-at_most n p)
+
+-- equal tests have equal counts
+pub count_below-same : (n : ℕ) (p q : ℕ → Bool) → ((r : ℕ) → r < n → p r ≡ q r) → count_below n p ≡ count_below n q
+count_below-same zero p q h = refl
+count_below-same (suc n) p q h = grind (arith, count_below-same n p q (λ r lt. h r (omega (arith, lt))), h n (omega arith))
+
+-- a weaker test has no smaller count
+pub count_below-weaker : (n : ℕ) (p q : ℕ → Bool) → ((r : ℕ) → r < n → p r ≡ true → q r ≡ true) → count_below n p ≤ count_below n q
+count_below-weaker zero p q h = omega arith
+count_below-weaker (suc n) p q h = grind (arith, count_below-weaker n p q (λ r lt. h r (omega (arith, lt))), h n (omega arith))
+
+-- numbers that fail the test do not count
+pub count_below-beyond : (n more : ℕ) (p : ℕ → Bool) → ((r : ℕ) → n ≤ r → p r ≡ false) → count_below (more + n) p ≡ count_below n p
+count_below-beyond n zero p h = ap (λ k. count_below k p) (omega arith)
+count_below-beyond n (suc more) p h =
+    let next : suc more + n ≡ suc (more + n) = omega arith in
+    let none : p (more + n) ≡ false = h (more + n) (omega arith) in
+    ap (λ k. count_below k p) next ∙ ap (λ b. (if b then 1 else 0) + count_below (more + n) p) none ∙ zero-add (count_below (more + n) p) ∙ count_below-beyond n more p h
+
+count_below-first : (n : ℕ) (p : ℕ → Bool) → count_below (suc n) p ≡ (if p 0 then 1 else 0) + count_below n (λ r. p (suc r))
+count_below-first zero p = refl
+count_below-first (suc n) p = grind (arith, count_below-first n p)
+
+one_more : (present : Bool) (set : List Bool) → count_below (length (present ∷ set)) (has_replica (present ∷ set)) ≡ (if present then 1 + count_below (length set) (has_replica set) else count_below (length set) (has_replica set))
+one_more true set = count_below-first (length set) (has_replica (true ∷ set))
+one_more false set = count_below-first (length set) (has_replica (false ∷ set)) ∙ zero-add (count_below (length set) (has_replica set))
+
+-- the count over a list that tells of each number is how many of its members are true
+pub count_below-list : (set : List Bool) → count_below (length set) (has_replica set) ≡ count_by (λ present. present) set
+count_below-list set = is_count_by (λ list. count_below (length list) (has_replica list)) (λ present. present) refl one_more set
+
+-- of a set as the code keeps it
+pub number_of-list : (set : List Bool) → length set ≡ 7 → number_of set ≡ count_by (λ present. present) set
+number_of-list set e = ap (λ n. count_below n (has_replica set)) (sym e) ∙ count_below-list set
