@@ -1,0 +1,2 @@
+-- Lemmas on what an attempt reads and writes.
+pub mod PutLaws

@@ -1,0 +1,3 @@
+-- What an attempt reads, and what it then writes.
+pub mod Wanted
+pub mod Computed

@@ -1,0 +1,113 @@
+//! The items of an attempt, and what it fetched so far.
+ghost use Rattle.std.specs.Prelude.{◌≡◌, ◌≤◌, [], length, IsSome, IsNone, IfSome, IfOk, OnOk, OnErr};
+ghost use Rattle.mk_client.specs.Wanted.{wanted_keys, next_wanted, with_read};
+ghost use Rattle.mk_client.specs.Wanted as spec;
+ghost use Rattle.mk_client.specs.Computed.{writes_of};
+
+use crate::buffer::Buffer;
+use mk_proc::{Item, Procs};
+use mk_txn::{NoMemory, ReadItem, Stamp, Value, WriteItem};
+use std::alloc::Global;
+use std::marker::Model;
+
+/// One attempt of a transaction, while its keys are fetched.
+#[derive(Drop)]
+pub struct ClientTxn {
+    items: Vec<Item>,
+    wanted: Vec<u32>,
+    reads: Vec<ReadItem>,
+}
+
+impl Model for ClientTxn {
+    ghost use Rattle.std.specs.Prelude.{◌≡◌, ◌≤◌, vec_len};
+    ghost use Rattle.mk_client.specs.Wanted.{Attempt, wanted_keys};
+
+    ghost Value = { Attempt };
+
+    ghost view = { λ t. record { items = t.items.items; reads = t.reads.items } };
+
+    ghost invariant = { λ t. (t.wanted.items ≡ wanted_keys t.items.items) × (vec_len t.items ≤ 16) };
+}
+
+impl ClientTxn {
+    /// Begins an attempt of these items, 1 to 16, with nothing fetched.
+    pub fn start(alloc: Global, items: &[Item]) -> Result<ClientTxn, NoMemory>
+        requires some { 1 ≤ length items.now }
+        requires few { length items.now ≤ 16 }
+        ensures { IfOk result (λ t. t ≡ record { items = items.now; reads = [] }) }
+    {
+        Ok(ClientTxn {
+            items: Vec::from_slice(alloc, items)?,
+            wanted: wanted_by(alloc, items)?,
+            reads: Vec::new(alloc),
+        })
+    }
+
+    /// The next key to fetch, and `None` where none is left.
+    pub fn wanted(&self) -> Option<u32>
+        ensures { result ≡ next_wanted self.now.items self.now.reads }
+    {
+        self.wanted.get(self.reads.len()).copied()
+    }
+
+    /// Takes the version and the value of the key that is wanted.
+    pub fn take(&mut self, version: Stamp, value: Value) -> Result<(), NoMemory>
+        requires { IsSome (next_wanted self.old.items self.old.reads) }
+        ensures ok { OnOk result (IfSome (next_wanted self.old.items self.old.reads) (λ key. self.new ≡ with_read self.old key version value)) }
+        ensures err { OnErr result (self.new ≡ self.old) }
+    {
+        let key = self.wanted[self.reads.len()];
+        self.reads.push(ReadItem {
+            key,
+            version,
+            value,
+        })?;
+        Ok(())
+    }
+
+    /// What was fetched so far.
+    pub fn reads(&self) -> &[ReadItem]
+        ensures { result.now ≡ self.now.reads }
+    {
+        &self.reads
+    }
+
+    /// What the attempt writes, computed from what it fetched.
+    pub fn writes(&self, procs: &Procs) -> Result<Vec<WriteItem>, NoMemory>
+        requires { IsNone (next_wanted self.now.items self.now.reads) }
+        ensures { IfOk result (λ writes. writes.items ≡ writes_of self.now.items self.now.reads) }
+    {
+        let mut buffer = Buffer::new(*self.items.allocator());
+        for item in &self.items {
+            buffer.take_item(item, &self.reads, procs)?;
+        }
+        Ok(buffer.into_writes())
+    }
+}
+
+// The keys that these items fetch, in order.
+fn wanted_by(alloc: Global, items: &[Item]) -> Result<Vec<u32>, NoMemory>
+    ensures { IfOk result (λ keys. keys.items ≡ wanted_keys items.now) }
+{
+    let mut keys = Vec::new(alloc);
+    for (place, item) in items.iter().enumerate() {
+        if is_fetched(&items[..place], item) {
+            keys.push(item.key())?;
+        }
+    }
+    Ok(keys)
+}
+
+// Whether this item fetches its key, behind the earlier ones.
+fn is_fetched(earlier: &[Item], item: &Item) -> bool
+    ensures { result ≡ spec.is_fetched earlier.now item.now }
+{
+    item.is_read() && !has_key(item.key(), earlier)
+}
+
+// Whether one of the items reads or writes the key.
+fn has_key(key: u32, items: &[Item]) -> bool
+    ensures { result ≡ spec.has_key key items.now }
+{
+    items.iter().any(|item| item.key() == key)
+}

@@ -1,0 +1,2 @@
+-- Lemmas on what a whole reading and a whole writing leave.
+pub mod WholeLaws

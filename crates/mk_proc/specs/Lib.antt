@@ -1,0 +1,3 @@
+-- Items, and the values of procedures.
+pub mod Items
+pub mod Procedures

@@ -1,0 +1,63 @@
+ghost use Rattle.std.specs.Prelude.{◌≡◌};
+ghost use Rattle.mk_proc.specs.Procedures.{proc_value};
+ghost use Rattle.mk_proc.specs.declared.ProcKind.TheVariants.{Add, Sum, Max};
+
+use super::*;
+
+fn add(values: &[u64], arg: u64) -> u64
+    ensures { result ≡ proc_value Add values.now arg }
+{
+    values
+        .first()
+        .map_or(arg, |first| first.saturating_add(arg))
+}
+
+fn sum(values: &[u64], arg: u64) -> u64
+    ensures { result ≡ proc_value Sum values.now arg }
+{
+    let mut total = arg;
+    for value in values {
+        total = total.saturating_add(*value);
+    }
+    total
+}
+
+fn max(values: &[u64], arg: u64) -> u64
+    ensures { result ≡ proc_value Max values.now arg }
+{
+    let mut greatest = arg;
+    for value in values {
+        greatest = greatest.max(*value);
+    }
+    greatest
+}
+
+#[test]
+fn a_procedure_of_each_kind_answers_its_value(rt: HostRuntime) {
+    let procs = Procs::new(
+        Proc::new(ProcKind::Add, add),
+        Proc::new(ProcKind::Sum, sum),
+        Proc::new(ProcKind::Max, max),
+    );
+    assert_eq!(rt; procs.call(ProcKind::Add, &[], 7), 7);
+    assert_eq!(rt; procs.call(ProcKind::Sum, &[u64::MAX, 1], 0), u64::MAX);
+    assert_eq!(rt; procs.call(ProcKind::Max, &[3, 9], 4), 9);
+}
+
+#[test]
+fn an_item_has_a_key(rt: HostRuntime) {
+    let items = [
+        Item::Read(1),
+        Item::Write { key: 2, value: 9 },
+        Item::Compute {
+            key: 3,
+            proc: ProcKind::Add,
+            arg: 9,
+        },
+        Item::Delete(4),
+    ];
+    for (item, key) in items.iter().zip(1..5) {
+        assert_eq!(rt; item.key(), key);
+        assert_eq!(rt; item.is_read(), key == 1);
+    }
+}
