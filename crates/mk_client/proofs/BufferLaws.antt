@@ -1,7 +1,6 @@
 -- A buffer into which all items were done.
 use Rattle.std.proofs.Common.{◌≡◌, ℕ, ◌≤◌, List, length, drop, ap, ◌∙◌, drop_of_length-le}
 use Rattle.mk_txn.specs.declared.ReadItem.{ReadItem}
-use Rattle.mk_txn.specs.declared.WriteItem.{WriteItem}
 use Rattle.mk_proc.specs.declared.Item.{Item}
 use Rattle.mk_client.specs.Computed.{Buffer, after_items, empty_buffer, writes_of}
 

@@ -1,5 +1,5 @@
 -- No key is fetched twice, and none is written twice.
-use Rattle.std.proofs.Common.{◌≡◌, ℕ, zero, suc, ◌+◌, ◌≤◌, Bool, true, false, not, ◌&&◌, ◌||◌, cond, eqb, List, [], ◌∷◌, ◌++◌, length, take, map, refl, sym, ap, ◌∙◌, subst, arith, length-append}
+use Rattle.std.proofs.Common.{◌≡◌, ℕ, zero, suc, ◌+◌, ◌≤◌, Bool, true, false, ◌||◌, cond, eqb, List, [], ◌∷◌, ◌++◌, length, take, refl, ap, arith}
 use Rattle.std.specs.List.{list_any}
 use Rattle.std.proofs.lemmas.Bool.Decides.{nat_tests}
 use Rattle.std.proofs.lemmas.List.Folds.{list_any-append}
@@ -10,7 +10,7 @@ use Rattle.mk_txn.specs.declared.WriteItem.{WriteItem}
 use Rattle.mk_txn.specs.Transactions.{are_distinct, write_keys}
 use Rattle.mk_proc.specs.declared.Item.{Item}
 use Rattle.mk_proc.specs.declared.Item.TheVariants.{Read, Write, Compute, Delete}
-use Rattle.mk_proc.specs.Items.{key_of, is_read}
+use Rattle.mk_proc.specs.Items.{key_of}
 use Rattle.mk_proc.specs.Procedures.{proc_value}
 use Rattle.mk_client.specs.Wanted.{has_key, is_fetched, keys_after, wanted_keys}
 use Rattle.mk_client.specs.Computed.{Buffer, put, after_item, after_items, empty_buffer, writes_of}
