@@ -1,5 +1,5 @@
 -- A transaction, as contracts see it.
-use Rattle.std.specs.Prelude.{◌≡◌, ◌≤◌, ℕ, Bool, true, ◌==◌, ◌&&◌, ◌||◌, not, nat_lt, List, [], ◌∷◌, map, length}
+use Rattle.std.specs.Prelude.{◌≡◌, ◌≤◌, ℕ, Bool, true, false, ◌==◌, ◌&&◌, ◌||◌, not, nat_lt, List, [], ◌∷◌, map, length}
 use Rattle.std.specs.List.{list_any, list_all}
 use Rattle.std.specs.declared.cmp.Ordering.{Ordering}
 use Rattle.std.specs.Ordering.{nat_cmp, ordering_then}
@@ -7,7 +7,7 @@ use Rattle.mk_lists.specs.Among.{Among}
 use Rattle.mk_txn.specs.declared.Stamp.{Stamp}
 use Rattle.mk_txn.specs.declared.TxnId.{TxnId}
 use Rattle.mk_txn.specs.declared.Value.{Value}
-use Rattle.mk_txn.specs.declared.Value.TheVariants.{Number}
+use Rattle.mk_txn.specs.declared.Value.TheVariants.{Number, Absent}
 use Rattle.mk_txn.specs.declared.ReadItem.{ReadItem}
 use Rattle.mk_txn.specs.declared.WriteItem.{WriteItem}
 use Rattle.mk_txn.specs.Stamps.{is_before}
@@ -15,6 +15,13 @@ use Rattle.mk_txn.specs.Stamps.{is_before}
 -- what every key holds at first
 abbrev pub initial_value : Value
 initial_value = Number 0
+
+-- whether two keys hold the same
+abbrev pub same_value : Value → Value → Bool
+same_value (Number a) (Number b) = a == b
+same_value (Number a) Absent = false
+same_value Absent (Number b) = false
+same_value Absent Absent = true
 
 -- the number, the stamp, what was read and what is to be written
 pub record Transaction : Type 0 where

@@ -124,7 +124,7 @@ fn marks_only_rise(rt: HostRuntime) -> Result<(), NoMemory> {
         (5, 3, 1, 0)
     );
     assert!(rt;
-        marks.covers(TxnId { client: 2, seq: 3 }) && !marks.covers(TxnId { client: 2, seq: 4 })
+        all.covers(TxnId { client: 2, seq: 3 }) && !all.covers(TxnId { client: 2, seq: 4 })
     );
     Ok(())
 }

@@ -1,0 +1,6 @@
+-- The cell of a key at a replica, lowest first.
+pub mod Acts
+pub mod Pending
+pub mod Cells
+pub mod Journals
+pub mod Exclusions

@@ -1,0 +1,4 @@
+pub mod Frames
+mod OneRun
+mod MovedRows
+mod MarkRows

@@ -1,0 +1,8 @@
+-- A column's state and its twelve steps, lowest first.
+pub mod ColumnState
+pub mod Replicas
+pub mod Answers
+pub mod Learnings
+pub mod Conditions
+pub mod Steps
+pub mod Logs

@@ -1,0 +1,133 @@
+//! One core number on all replicas, with its clients, records, marks and messages.
+#![tactic(auto)]
+
+use mk_cell::{Act, Answer};
+pub use mk_merge::{Phase, ReplicaView};
+use mk_txn::{NoMemory, Outcome, ReadItem, Txn, TxnId, WriteItem};
+use std::marker::Model;
+
+/// An act that a column wants done at a key of a replica.
+#[derive(Clone, Copy, Debug, PartialEq, Eq)]
+pub struct KeyCall {
+    pub replica: u32,
+    pub key: u32,
+    pub act: Act,
+}
+
+/// The reads of an attempt, in order of mention.
+#[derive(Drop, Debug)]
+pub struct Reads {
+    items: Vec<ReadItem>,
+}
+
+impl Model for Reads {
+    ghost use Rattle.std.specs.Prelude.{List};
+    ghost use Rattle.mk_txn.specs.declared.ReadItem.{ReadItem};
+
+    ghost Value = { List ReadItem };
+
+    ghost view = { λ reads. reads.items.items };
+}
+
+/// The writes of an attempt, in order of mention.
+#[derive(Drop, Debug)]
+pub struct Writes {
+    items: Vec<WriteItem>,
+}
+
+impl Model for Writes {
+    ghost use Rattle.std.specs.Prelude.{List};
+    ghost use Rattle.mk_txn.specs.declared.WriteItem.{WriteItem};
+
+    ghost Value = { List WriteItem };
+
+    ghost view = { λ writes. writes.items.items };
+}
+
+/// One step of a column.
+#[derive(Drop, Debug)]
+pub enum Step {
+    /// The client begins an attempt, which reads at this replica.
+    Begin {
+        client: u32,
+        replica: u32,
+    },
+    /// The client begins an attempt that finds no replica to read at.
+    Unread {
+        client: u32,
+    },
+    /// The attempt asks for the key's value.
+    Read {
+        id: TxnId,
+        key: u32,
+    },
+    /// The attempt gets its stamp and its writes, which makes the transaction.
+    Stamp {
+        id: TxnId,
+        clock: u64,
+        writes: Writes,
+    },
+    /// A Validate is sent to all replicas.
+    Validate {
+        id: TxnId,
+    },
+    /// The message of this number is taken.
+    Take {
+        number: u64,
+    },
+    /// The wanted key call is answered.
+    Key {
+        call: KeyCall,
+        answer: Answer,
+    },
+    /// The own coordinator does what its ruling says.
+    Rule {
+        id: TxnId,
+    },
+    /// The own coordinator sends its proposal again.
+    Again {
+        id: TxnId,
+    },
+    /// A takeover of the attempt begins at this view.
+    Takeover {
+        id: TxnId,
+        view: u32,
+    },
+    /// The takeover does what its pick says.
+    Pick {
+        id: TxnId,
+        view: u32,
+    },
+    /// The own coordinator stops for good.
+    Stop {
+        id: TxnId,
+    },
+}
+
+/// Why a step was not done.
+#[derive(Clone, Copy, Debug, PartialEq, Eq)]
+pub enum ColumnError {
+    /// The step's first condition that fails has this number.
+    NotEnabled(u8),
+    NoMemory,
+}
+
+impl From<NoMemory> for ColumnError {
+    fn from(_: NoMemory) -> ColumnError {
+        ColumnError::NoMemory
+    }
+}
+
+/// An attempt as it stands: `proposed` and `learned` are its own coordinator's.
+#[derive(Drop, Debug)]
+pub struct Attempt {
+    pub id: TxnId,
+    pub replica: u32,
+    pub epoch: u32,
+    pub txn: Option<Txn>,
+    pub unread: bool,
+    pub stopped: bool,
+    pub proposed: Option<Outcome>,
+    pub learned: Option<Outcome>,
+    pub reads: Reads,
+}

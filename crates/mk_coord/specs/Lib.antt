@@ -1,0 +1,2 @@
+-- The own coordinator of an attempt.
+pub mod Rulings

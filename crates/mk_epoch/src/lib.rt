@@ -1,0 +1,38 @@
+//! Epoch changes: words, promises, bases and adoptions.
+#![tactic(auto)]
+
+use mk_merge::MergeError;
+use mk_txn::NoMemory;
+
+/// Why a step of an epoch change is refused.
+#[derive(Clone, Copy, Debug, PartialEq, Eq)]
+pub enum EpochError {
+    /// Nobody asked for this epoch.
+    Unasked,
+    /// The epoch has no base.
+    Unmade,
+    /// The replica has lost its state.
+    Lacking,
+    /// The epoch is too old for the replica, whose epoch word this is.
+    Old(u32),
+    /// The epoch word could not be written.
+    WordFault,
+    /// Too few replicas promised or adopted, or the leader's promise is missing; this many did.
+    Short(u32),
+    NoMemory,
+}
+
+impl From<NoMemory> for EpochError {
+    fn from(_: NoMemory) -> EpochError {
+        EpochError::NoMemory
+    }
+}
+
+impl From<MergeError> for EpochError {
+    fn from(error: MergeError) -> EpochError {
+        match error {
+            MergeError::Short(promises) => EpochError::Short(promises),
+            MergeError::NoMemory => EpochError::NoMemory,
+        }
+    }
+}

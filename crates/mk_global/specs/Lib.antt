@@ -1,0 +1,2 @@
+-- Global lines: which numbers they may name, and which answers they may have.
+pub mod Lines

@@ -1,0 +1,2 @@
+pub mod KnownLaws
+mod MergeRows

@@ -1,0 +1,91 @@
+//! Bases of epochs, the promises from which one is merged, and the views that columns have of replicas.
+#![tactic(auto)]
+
+use mk_record::Entry;
+use mk_trim::Kept;
+use mk_txn::{Marks, NoMemory, Outcome, Txn};
+use std::marker::Model;
+
+/// A transaction with its outcome in a base.
+#[derive(Drop, Debug)]
+pub struct Fated {
+    pub txn: Txn,
+    pub outcome: Outcome,
+}
+
+/// What an epoch begins with: transactions with their outcomes, in order of their numbers, and the marks of clients.
+#[derive(Drop, Debug)]
+pub struct Base {
+    fates: Vec<Fated>,
+    marks: Marks,
+}
+
+impl Model for Base {
+    ghost use Rattle.mk_merge.specs.Bases.{BaseState, IsBase};
+
+    ghost Value = { BaseState };
+
+    ghost view = { λ base. record { list = base.fates.items; marks = base.marks } };
+
+    ghost invariant = { λ base. IsBase (record { list = base.fates.items; marks = base.marks }) };
+}
+
+/// The entries of all columns at one replica.
+#[derive(Drop, Debug)]
+pub struct Entries {
+    entries: Vec<Entry>,
+}
+
+impl Model for Entries {
+    ghost use Rattle.std.specs.Prelude.{List};
+    ghost use Rattle.mk_record.specs.declared.Entry.{Entry};
+
+    ghost Value = { List Entry };
+
+    ghost view = { λ all. all.entries.items };
+}
+
+/// What a replica hands in for an epoch change: the epoch it has adopted with that epoch's base, its entries, its marks.
+#[derive(Drop, Debug)]
+pub struct Promise<B> {
+    pub replica: u32,
+    pub adopted: u32,
+    pub base: B,
+    pub entries: Entries,
+    pub marks: Marks,
+}
+
+/// Why no base is made.
+#[derive(Clone, Copy, Debug, PartialEq, Eq)]
+pub enum MergeError {
+    /// There are only so many promises, or the leader's is missing.
+    Short(u32),
+    NoMemory,
+}
+
+impl From<NoMemory> for MergeError {
+    fn from(_: NoMemory) -> MergeError {
+        MergeError::NoMemory
+    }
+}
+
+/// What a replica does with messages.
+#[derive(Clone, Copy, Debug, PartialEq, Eq)]
+pub enum Phase {
+    /// It takes them.
+    Serving,
+    /// It has promised an epoch change, and waits.
+    Paused,
+    /// It has adopted an epoch that nobody has entered since.
+    Adopted,
+    /// It has lost its memory.
+    Lacking,
+}
+
+/// What columns see of a replica in a round: its phase, the epoch that it has adopted, and what that epoch's base knows.
+#[derive(Drop, Debug)]
+pub struct ReplicaView {
+    pub phase: Phase,
+    pub epoch: u32,
+    pub fates: Kept,
+}

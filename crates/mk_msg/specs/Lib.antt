@@ -1,0 +1,2 @@
+-- Messages, and the list of those that were sent.
+pub mod Links

@@ -1,0 +1,2 @@
+-- The record of a replica.
+pub mod Entries

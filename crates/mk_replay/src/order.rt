@@ -1,0 +1,19 @@
+//! Transactions in order of stamp.
+ghost use Rattle.std.specs.Prelude.{◌≡◌, IfOk, map};
+ghost use Rattle.mk_replay.specs.OneCopy.{HaveDistinctStamps, in_stamp_order};
+
+use mk_txn::{NoMemory, Stamp, Txn};
+use std::alloc::Global;
+use std::collections::BTreeMap;
+
+// The transactions by their stamps.
+pub(crate) fn by_stamp<'a>(alloc: Global, txns: &'a [Txn]) -> Result<BTreeMap<Stamp, &'a Txn>, NoMemory>
+    requires { HaveDistinctStamps txns.now }
+    ensures { IfOk result (λ ordered. map (λ entry. entry.1.now) ordered.entries ≡ in_stamp_order txns.now) }
+{
+    let mut ordered = BTreeMap::new(alloc);
+    for txn in txns {
+        ordered.insert(txn.stamp(), txn)?;
+    }
+    Ok(ordered)
+}

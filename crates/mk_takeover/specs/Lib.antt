@@ -1,0 +1,2 @@
+-- Takeovers.
+pub mod Picks

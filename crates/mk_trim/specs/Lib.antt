@@ -1,0 +1,3 @@
+-- Marks of clients, and the outcomes that they leave to be kept.
+pub mod Settling
+pub mod Keeping
