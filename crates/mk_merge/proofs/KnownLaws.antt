@@ -1,11 +1,11 @@
 -- What is kept of a base knows what the base knows.
 use Rattle.std.proofs.Common.{◌≡◌, Bool, true, false, refl, arith, sym, ap, ◌∙◌, List, [], ◌∷◌}
 use Rattle.std.specs.Prelude.{Option}
-use Rattle.std.proofs.lemmas.Bool.Decides.{nat_tests}
 use Rattle.mk_txn.specs.declared.TxnId.{TxnId}
 use Rattle.mk_txn.specs.declared.Outcome.{Outcome}
 use Rattle.mk_txn.specs.MarkMaps.{MarkMap, covers}
 use Rattle.mk_txn.specs.Transactions.{same_id}
+use Rattle.mk_txn.proofs.IdOrder.{same_id-tells}
 use Rattle.mk_trim.specs.Keeping.{KnownFate, fate_of, known_by, uncovered, outcome_in}
 use Rattle.mk_merge.specs.declared.Fated.{Fated}
 use Rattle.mk_merge.specs.Bases.{BaseState, known, kept_of, fate_in, fates_in}
@@ -13,12 +13,6 @@ use Rattle.mk_merge.specs.Bases.{BaseState, known, kept_of, fate_in, fates_in}
 fate_in-fates_in : (id : TxnId) (list : List Fated) → outcome_in (fates_in list) id ≡ fate_in id list
 fate_in-fates_in id [] = refl
 fate_in-fates_in id (f ∷ list) = grind (arith, fate_in-fates_in id list)
-
-same_id-tells : (a b : TxnId) → same_id a b ≡ true → a ≡ b
-same_id-tells a b h =
-    let c : a.client ≡ b.client = grind (arith, nat_tests) in
-    let s : a.seq ≡ b.seq = grind (arith, nat_tests) in
-    λ i. record { client = c i; seq = s i }
 
 -- where a mark covers one of two equal numbers, it covers the other
 apart : (marks : MarkMap) (a id : TxnId) → covers marks id ≡ false → covers marks a ≡ true → same_id a id ≡ false
