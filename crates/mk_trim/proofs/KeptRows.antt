@@ -1,5 +1,6 @@
 -- Marks and kept outcomes on small cases, by computing.
-use Rattle.std.proofs.Common.{◌≡◌, ℕ, refl, [], ◌∷◌}
+use Rattle.std.proofs.Common.{◌≡◌, ℕ, refl, [], ◌∷◌, nat_le, false}
+use Rattle.std.specs.Prelude.{◌==◌, ◌||◌}
 use Rattle.mk_txn.specs.declared.TxnId.{TxnId}
 use Rattle.mk_txn.specs.declared.Cause.TheVariants.{Epoch as ByEpoch}
 use Rattle.mk_txn.specs.declared.Outcome.TheVariants.{Commit, Abort}

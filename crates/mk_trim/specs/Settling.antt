@@ -1,8 +1,5 @@
 -- How far a test passes, one number after the other: a client's mark is how far its attempts are settled.
-use Rattle.std.specs.Prelude.{ℕ, zero, suc, Bool, true, ◌&&◌, List, length, if◌then◌else◌}
-use Rattle.std.specs.List.{list_any}
-use Rattle.mk_txn.specs.declared.TxnId.{TxnId}
-use Rattle.mk_txn.specs.Transactions.{same_id}
+use Rattle.std.specs.Prelude.{ℕ, zero, suc, Bool, true, ◌&&◌, if◌then◌else◌}
 
 -- each number from 1 to this one passes
 abbrev pub all_upto : (ℕ → Bool) → ℕ → Bool
