@@ -1,2 +1,2 @@
 pub mod SettlingLaws
-mod KeepingRows
+mod KeptRows

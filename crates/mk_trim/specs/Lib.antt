@@ -1,3 +1,3 @@
 -- Marks of clients, and the outcomes that they leave to be kept.
 pub mod Settling
-pub mod Keeping
+pub mod KeptOutcomes

@@ -12,7 +12,7 @@ pub struct Kept {
 }
 
 impl Model for Kept {
-    ghost use Rattle.mk_trim.specs.Keeping.{KeptOutcomes, IsKept};
+    ghost use Rattle.mk_trim.specs.KeptOutcomes.{KeptOutcomes, IsKept};
 
     ghost Value = { KeptOutcomes };
 
