@@ -1,5 +1,5 @@
 -- The one attempt of a first script: every key that it reads is as it was at the beginning.
-use Rattle.std.specs.Prelude.{ℕ, List, [], ◌∷◌, map}
+use Rattle.std.specs.Prelude.{ℕ, List, map}
 use Rattle.mk_txn.specs.declared.Stamp.{Stamp}
 use Rattle.mk_txn.specs.declared.ReadItem.{ReadItem}
 use Rattle.mk_txn.specs.declared.WriteItem.{WriteItem}

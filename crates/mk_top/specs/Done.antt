@@ -1,5 +1,5 @@
 -- How a call of the program ends.
-use Rattle.std.specs.Prelude.{◌≡◌, ◌⊎◌, ◌<◌, ◌≤◌, ℕ, List, [], ◌∷◌, ◌++◌, codes, length, map, Option, Some, None, ⊤}
+use Rattle.std.specs.Prelude.{◌≡◌, ◌⊎◌, ◌<◌, ◌≤◌, ℕ, List, [], ◌∷◌, codes, length, Option, Some, None, ⊤}
 use Rattle.mk_top.specs.FirstScripts.{FirstScript, first_script_of}
 use Rattle.mk_top.specs.declared.top.Why.{Why}
 use Rattle.mk_top.specs.declared.top.Why.TheVariants.{Unbuilt, SourceFault, SinkFault, NoMemory}

@@ -1,5 +1,5 @@
 -- The scripts that can be run so far: one client at most, and one transaction of it with reads and writes at most.
-use Rattle.std.specs.Prelude.{◌^◌, ◌-◌, ℕ, Bool, true, false, ◌&&◌, ◌==◌, nat_lt, List, [], ◌∷◌, ◌++◌, codes, length, fold, is_some, unwrap_or, Option, Some, None, Result, Ok, Err, if◌then◌else◌}
+use Rattle.std.specs.Prelude.{◌^◌, ◌-◌, ℕ, ◌&&◌, ◌==◌, nat_lt, List, [], ◌∷◌, ◌++◌, codes, length, fold, unwrap_or, Option, Some, None, Result, Ok, Err, if◌then◌else◌}
 use Rattle.std.specs.Str.{bytes_eq}
 use Rattle.mk_text.specs.Words.{cut, words, is_name, is_empty, number}
 use Rattle.mk_names.specs.NameLists.{with_name}

@@ -1,6 +1,5 @@
 -- What the code keeps of a first script, as the definition sees it.
-use Rattle.std.specs.Prelude.{◌≤◌, ◌^◌, ℕ, List, length, Option, Some, None}
-use Rattle.std.specs.Borrow.{Bor}
+use Rattle.std.specs.Prelude.{◌≤◌, ◌^◌, length, Option, Some, None}
 use Rattle.std.specs.String.{string_bytes}
 use Rattle.mk_top.specs.declared.reading.Mentioned.{Mentioned as CodeMentioned}
 use Rattle.mk_top.specs.declared.reading.Txn.{Txn as CodeTxn}

@@ -1,5 +1,5 @@
 -- How values, stamps and items are written.
-use Rattle.std.specs.Prelude.{ℕ, List, [], ◌∷◌, ◌++◌, codes, slice_get, unwrap_or}
+use Rattle.std.specs.Prelude.{ℕ, List, [], ◌++◌, codes, slice_get, unwrap_or}
 use Rattle.std.specs.Fmt.{decimal}
 use Rattle.mk_txn.specs.declared.Stamp.{Stamp}
 use Rattle.mk_txn.specs.declared.Value.{Value}

@@ -1,4 +1,4 @@
-use Rattle.std.proofs.Common.{◌≡◌, ◌∷◌, None, Some, ap, ◌∙◌, sym, refl}
+use Rattle.std.proofs.Common.{◌≡◌, ◌∷◌, None, Some, ap, ◌∙◌, sym}
 use Rattle.std.specs.Prelude.{fold}
 use Rattle.mk_text.specs.Words.{words_behind}
 use Rattle.mk_top.specs.FirstScripts.{named, with_next, with_some, with_word}
