@@ -1,6 +1,6 @@
 -- Transactions put in order of stamp: their order, their members, and that a part in order is the ordered part.
-use Rattle.std.proofs.Common.{◌≡◌, ◌≢◌, ◌⊎◌, Bool, true, false, refl, sym, ap, subst, ◌∙◌, inl, inr, arith, List, [], ◌∷◌, ◌++◌, map, filter, if◌then◌else◌}
-use Rattle.std.proofs.lemmas.Bool.Decides.{nat_tests}
+use Rattle.std.proofs.Common.{◌≡◌, ◌≢◌, ◌⊎◌, Bool, true, false, refl, sym, ap, subst, ◌∙◌, inl, inr, arith, List, [], ◌∷◌, ◌++◌, map, filter, append_assoc, if◌then◌else◌}
+use Rattle.std.proofs.lemmas.List.{append-nil}
 use Rattle.mk_lists.specs.Among.{Among, Each, Each-among, Each-weaker, AllDistinct, Among-append_right}
 use Rattle.mk_txn.specs.declared.Stamp.{Stamp}
 use Rattle.mk_txn.specs.Stamps.{is_before}
@@ -75,7 +75,7 @@ stamp-put stamp txn (first ∷ rest) a = by_place (stamp-put stamp txn rest) (is
     by_place more false (inr a) = elim (more a) [ inl e ↦ inl e | inr b ↦ inr (inr b) ]
 
 -- none of the others has its stamp
-AreApart-put : (txn : Transaction) (txns more : List Transaction) → ¬ (Among txn.stamp (stamps_of more)) → AreApart txns more → AreApart (put_in_order txn txns) more
+pub AreApart-put : (txn : Transaction) (txns more : List Transaction) → ¬ (Among txn.stamp (stamps_of more)) → AreApart txns more → AreApart (put_in_order txn txns) more
 AreApart-put txn txns [] new h = tt
 AreApart-put txn txns (next ∷ more) new h =
     ((λ a. elim (stamp-put next.stamp txn txns a) [ inl e ↦ new (inl (sym e)) | inr b ↦ h.0 b ]), AreApart-put txn txns more (λ a. new (inr a)) h.1)
@@ -126,7 +126,67 @@ Each-filter P p (txn ∷ txns) h = by_test (Each-filter P p txns h.1) (p txn)
 
 filter-put : (p : Transaction → Bool) (txn : Transaction) (txns : List Transaction) → IsInOrder txns → filter p (put_in_order txn txns) ≡ (if p txn then put_in_order txn (filter p txns) else filter p txns)
 filter-put p txn [] h = refl
-filter-put p txn (first ∷ rest) h = by_place (filter-put p txn rest h.1) (is_before txn.stamp first.stamp) refl (p txn) (p first) refl
+filter-put p txn (first ∷ rest) h = by_place (filter-put p txn rest h.1) (is_before txn.stamp first.stamp) refl
   where
-    by_place : filter p (put_in_order txn rest) ≡ (if p txn then put_in_order txn (filter p rest) else filter p rest) → (b : Bool) → is_before txn.stamp first.stamp ≡ b → (c d : Bool) → p first ≡ d → filter p (if b then txn ∷ first ∷ rest else first ∷ put_in_order txn rest) ≡ (if p txn then put_in_order txn (if d then first ∷ filter p rest else filter p rest) else (if d then first ∷ filter p rest else filter p rest))
-    by_place more b e c d f = ?
+    by_txn : is_before txn.stamp first.stamp ≡ false → (c : Bool) → first ∷ (if c then put_in_order txn (filter p rest) else filter p rest) ≡ (if c then put_in_order txn (first ∷ filter p rest) else first ∷ filter p rest)
+    by_txn e true = sym (ap (λ b. if b then txn ∷ first ∷ filter p rest else first ∷ put_in_order txn (filter p rest)) e)
+    by_txn e false = refl
+
+    by_first : filter p (put_in_order txn rest) ≡ (if p txn then put_in_order txn (filter p rest) else filter p rest) → is_before txn.stamp first.stamp ≡ false → (d : Bool) → (if d then first ∷ filter p (put_in_order txn rest) else filter p (put_in_order txn rest)) ≡ (if p txn then put_in_order txn (if d then first ∷ filter p rest else filter p rest) else (if d then first ∷ filter p rest else filter p rest))
+    by_first more e true = ap (λ ys. first ∷ ys) more ∙ by_txn e (p txn)
+    by_first more e false = more
+
+    by_place : filter p (put_in_order txn rest) ≡ (if p txn then put_in_order txn (filter p rest) else filter p rest) → (b : Bool) → is_before txn.stamp first.stamp ≡ b → filter p (if b then txn ∷ first ∷ rest else first ∷ put_in_order txn rest) ≡ (if p txn then put_in_order txn (filter p (first ∷ rest)) else filter p (first ∷ rest))
+    by_place more true e =
+        let after : Each (λ later. is_before txn.stamp later.stamp ≡ true) (first ∷ rest) = (e, Each-weaker (λ later. is_before first.stamp later.stamp ≡ true) (λ later. is_before txn.stamp later.stamp ≡ true) (λ later k. is_before-through txn.stamp first.stamp later.stamp e k) rest h.0) in
+        ap (λ ys. if p txn then ys else filter p (first ∷ rest)) (sym (put-first txn (filter p (first ∷ rest)) (Each-filter (λ later. is_before txn.stamp later.stamp ≡ true) p (first ∷ rest) after)))
+    by_place more false e = by_first more e (p first)
+
+-- filtering those in order, and putting the filtered ones in order, is one
+pub filter-all : (p : Transaction → Bool) (ordered txns : List Transaction) → IsInOrder ordered → AreApart ordered txns → HaveDistinctStamps txns → filter p (all_in_order ordered txns) ≡ all_in_order (filter p ordered) (filter p txns)
+filter-all p ordered [] h k d = refl
+filter-all p ordered (txn ∷ txns) h k d =
+    filter-all p (put_in_order txn ordered) txns (IsInOrder-put txn ordered k.0 h) (AreApart-put txn ordered txns d.0 k.1) d.1
+    ∙ ap (λ ys. all_in_order ys (filter p txns)) (filter-put p txn ordered h)
+    ∙ by_test (p txn)
+  where
+    by_test : (b : Bool) → all_in_order (if b then put_in_order txn (filter p ordered) else filter p ordered) (filter p txns) ≡ all_in_order (filter p ordered) (if b then txn ∷ filter p txns else filter p txns)
+    by_test true = refl
+    by_test false = refl
+
+filter-none : (p : Transaction → Bool) (txns : List Transaction) → Each (λ txn. p txn ≡ false) txns → filter p txns ≡ []
+filter-none p [] h = refl
+filter-none p (txn ∷ txns) h = ap (λ b. if b then txn ∷ filter p txns else filter p txns) h.0 ∙ filter-none p txns h.1
+
+-- those before one of them
+pub filter-before : (done : List Transaction) (txn : Transaction) (rest : List Transaction) → IsInOrder (done ++ txn ∷ rest) → filter (λ other. is_before other.stamp txn.stamp) (done ++ txn ∷ rest) ≡ done
+filter-before [] txn rest h =
+    ap (λ b. if b then txn ∷ filter (λ other. is_before other.stamp txn.stamp) rest else filter (λ other. is_before other.stamp txn.stamp) rest) (is_before-itself txn.stamp)
+    ∙ filter-none (λ other. is_before other.stamp txn.stamp) rest (Each-weaker (λ later. is_before txn.stamp later.stamp ≡ true) (λ later. is_before later.stamp txn.stamp ≡ false) (λ later k. is_before-not_back txn.stamp later.stamp k) rest h.0)
+filter-before (first ∷ done) txn rest h =
+    let before : is_before first.stamp txn.stamp ≡ true = Each-among (λ later. is_before first.stamp later.stamp ≡ true) txn (done ++ txn ∷ rest) h.0 (Among-append_right txn done (txn ∷ rest) (inl refl)) in
+    ap (λ b. if b then first ∷ filter (λ other. is_before other.stamp txn.stamp) (done ++ txn ∷ rest) else filter (λ other. is_before other.stamp txn.stamp) (done ++ txn ∷ rest)) before
+    ∙ ap (λ ys. first ∷ ys) (filter-before done txn rest h.1)
+
+-- ---- a list that is in order stays as it is
+
+put-last : (txn : Transaction) (txns : List Transaction) → Each (λ earlier. is_before earlier.stamp txn.stamp ≡ true) txns → put_in_order txn txns ≡ txns ++ txn ∷ []
+put-last txn [] h = refl
+put-last txn (first ∷ rest) h =
+    ap (λ b. if b then txn ∷ first ∷ rest else first ∷ put_in_order txn rest) (is_before-not_back first.stamp txn.stamp h.0)
+    ∙ ap (λ ys. first ∷ ys) (put-last txn rest h.1)
+
+each_before : (done : List Transaction) (txn : Transaction) (rest : List Transaction) → IsInOrder (done ++ txn ∷ rest) → Each (λ earlier. is_before earlier.stamp txn.stamp ≡ true) done
+each_before [] txn rest h = tt
+each_before (first ∷ done) txn rest h =
+    (Each-among (λ later. is_before first.stamp later.stamp ≡ true) txn (done ++ txn ∷ rest) h.0 (Among-append_right txn done (txn ∷ rest) (inl refl)), each_before done txn rest h.1)
+
+all-after : (ordered txns : List Transaction) → IsInOrder (ordered ++ txns) → all_in_order ordered txns ≡ ordered ++ txns
+all-after ordered [] h = sym (append-nil ordered)
+all-after ordered (txn ∷ txns) h =
+    ap (λ ys. all_in_order ys txns) (put-last txn ordered (each_before ordered txn txns h))
+    ∙ all-after (ordered ++ txn ∷ []) txns (subst IsInOrder (sym (append_assoc ordered (txn ∷ []) txns)) h)
+    ∙ append_assoc ordered (txn ∷ []) txns
+
+pub in_stamp_order-in_order : (txns : List Transaction) → IsInOrder txns → in_stamp_order txns ≡ txns
+in_stamp_order-in_order txns h = all-after [] txns h

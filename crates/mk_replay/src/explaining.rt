@@ -1,7 +1,7 @@
 //! Whether what was read is what the commits left.
-ghost use Rattle.std.specs.Prelude.{◌≡◌, IfOk};
+ghost use Rattle.std.specs.Prelude.{◌≡◌, ◌↔◌, IfOk, IsNone};
 ghost use Rattle.mk_replay.specs.OneCopy.{HaveDistinctStamps};
-ghost use Rattle.mk_replay.specs.Explained.{unexplained_read};
+ghost use Rattle.mk_replay.specs.Explained.{unexplained_read, IsExplained};
 
 use crate::one_copy::OneCopy;
 use crate::order::by_stamp;
@@ -13,7 +13,8 @@ use std::alloc::Global;
 /// stamp leave, and None where there is none.
 pub fn unexplained(alloc: Global, commits: &[Txn]) -> Result<Option<Unexplained>, NoMemory>
     requires { HaveDistinctStamps commits.now }
-    ensures { IfOk result (λ first. first ≡ unexplained_read commits.now) }
+    ensures first { IfOk result (λ first. first ≡ unexplained_read commits.now) }
+    ensures none_where_explained { IfOk result (λ first. IsNone first ↔ IsExplained commits.now) }
 {
     let order = by_stamp(alloc, commits)?;
     let mut copy = OneCopy::new(alloc);

@@ -5,6 +5,8 @@ mod explaining;
 mod one_copy;
 mod order;
 pub mod reads;
+#[cfg(test)]
+mod tests;
 
 pub use explaining::unexplained;
-pub use one_copy::{OneCopy, replay};
+pub use one_copy::{OneCopy, latest_write_stays, replay};

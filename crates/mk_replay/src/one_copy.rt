@@ -1,6 +1,8 @@
 //! The one copy.
-ghost use Rattle.std.specs.Prelude.{◌≡◌, IfOk};
-ghost use Rattle.mk_replay.specs.OneCopy.{HaveDistinctStamps, one_copy};
+ghost use Rattle.std.specs.Prelude.{◌≡◌, ℕ, List, IfOk};
+ghost use Rattle.mk_txn.specs.LatestWrites.{first_version, latest_write};
+ghost use Rattle.mk_txn.specs.Transactions.{Transaction};
+ghost use Rattle.mk_replay.specs.OneCopy.{HaveDistinctStamps, one_copy, version_in};
 
 use crate::order::by_stamp;
 use mk_txn::{NoMemory, Stamp, Txn, Value, WriteItem};
@@ -69,3 +71,8 @@ pub fn replay(alloc: Global, commits: &[Txn]) -> Result<OneCopy, NoMemory>
     }
     Ok(copy)
 }
+
+/// What the copy holds of a key is the latest write of it, in whatever order the commits are looked at.
+pub fn latest_write_stays()
+    ensures { (commits : List Transaction) (key : ℕ) → HaveDistinctStamps commits → version_in (one_copy commits) key ≡ latest_write key first_version commits }
+{}

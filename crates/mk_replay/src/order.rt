@@ -7,7 +7,10 @@ use std::alloc::Global;
 use std::collections::BTreeMap;
 
 // The transactions by their stamps.
-pub(crate) fn by_stamp<'a>(alloc: Global, txns: &'a [Txn]) -> Result<BTreeMap<Stamp, &'a Txn>, NoMemory>
+pub(crate) fn by_stamp<'a>(
+    alloc: Global,
+    txns: &'a [Txn],
+) -> Result<BTreeMap<Stamp, &'a Txn>, NoMemory>
     requires { HaveDistinctStamps txns.now }
     ensures { IfOk result (λ ordered. map (λ entry. entry.1.now) ordered.entries ≡ in_stamp_order txns.now) }
 {

@@ -16,7 +16,10 @@ pub struct Unexplained {
 pub(crate) fn find_unlike(copy: &OneCopy, reads: &[ReadItem]) -> Option<u32>
     ensures { result ≡ first_unlike copy.now reads.now }
 {
-    reads.iter().find(|item| !holds(copy, item)).map(|item| item.key)
+    reads
+        .iter()
+        .find(|item| !holds(copy, item))
+        .map(|item| item.key)
 }
 
 fn holds(copy: &OneCopy, item: &ReadItem) -> bool
