@@ -1,9 +1,8 @@
 -- Counts over one more number, over fewer, and over sets of replicas.
-use Rattle.std.proofs.Common.{◌≡◌, ◌≢◌, ◌∙◌, ◌<◌, ◌≤◌, ◌+◌, ℕ, zero, suc, Bool, true, false, refl, sym, ap, arith, List, [], ◌∷◌, length, count_by, if◌then◌else◌, slice_index_or, slice_set, replicate, get_or, zero-add}
-use Rattle.std.proofs.lemmas.Bool.Decides.{nat_tests}
+use Rattle.std.proofs.Common.{◌≡◌, ◌∙◌, ◌<◌, ◌≤◌, ◌+◌, ℕ, zero, suc, Bool, true, false, refl, sym, ap, arith, List, ◌∷◌, length, count_by, if◌then◌else◌, zero-add}
 use Rattle.std.proofs.lemmas.List.Recursion.{is_count_by}
 use Rattle.mk_quorum.specs.Counts.{count_below}
-use Rattle.mk_quorum.specs.ReplicaSets.{no_replicas, has_replica, with_replica, number_of}
+use Rattle.mk_quorum.specs.ReplicaSets.{has_replica, number_of}
 
 -- no count is above the number of numbers
 pub count_below-at_most : (n : ℕ) (p : ℕ → Bool) → count_below n p ≤ n

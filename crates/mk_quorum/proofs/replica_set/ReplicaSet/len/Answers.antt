@@ -1,4 +1,4 @@
-use Rattle.std.proofs.Common.{◌≡◌, ◌∙◌, sym, ap}
+use Rattle.std.proofs.Common.{◌∙◌, sym, ap}
 use Rattle.mk_quorum.specs.ReplicaSets.{number_of}
 use Rattle.mk_quorum.proofs.Counting.{number_of-list}
 use Rattle.mk_quorum.proofs.replica_set.ReplicaSet.len.Goals as goal
