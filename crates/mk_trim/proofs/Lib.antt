@@ -1,2 +1,4 @@
 pub mod SettlingLaws
-mod KeepingRows
+pub mod KeepingRows
+pub mod InOrder
+pub mod OneMoreSettled

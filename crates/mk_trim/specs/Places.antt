@@ -1,0 +1,10 @@
+-- Places in a list of outcomes that stand in order of attempt.
+use Rattle.std.specs.Prelude.{ℕ, zero, suc, List, [], ◌∷◌, if◌then◌else◌}
+use Rattle.mk_txn.specs.declared.TxnId.{TxnId}
+use Rattle.mk_txn.specs.Transactions.{id_before}
+use Rattle.mk_trim.specs.KeptOutcomes.{Outcomes}
+
+-- how many at the front are before this attempt
+abbrev pub place_of : TxnId → Outcomes → ℕ
+place_of id [] = 0
+place_of id (first ∷ rest) = if id_before first.0 id then suc (place_of id rest) else 0
