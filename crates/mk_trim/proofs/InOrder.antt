@@ -2,7 +2,7 @@
 use Rattle.std.proofs.Common.{◌≡◌, ◌∙◌, ◌<◌, ◌≤◌, ◌+◌, ℕ, zero, suc, Bool, true, false, refl, sym, ap, subst, arith, List, [], ◌∷◌, ◌++◌, length, get_or, take, drop, filter, not, nat_lt, Option, Some, None, if◌then◌else◌}
 use Rattle.std.proofs.lemmas.Bool.{false≢true}
 use Rattle.std.proofs.lemmas.Bool.Decides.{nat_tests}
-use Rattle.std.specs.List.{insert, slice_get}
+use Rattle.std.specs.List.{insert}
 use Rattle.std.specs.List.Sorted.{IsPartitionedBy, IsPartitionPoint}
 use Rattle.mk_lists.specs.Among.{Each, Each-weaker}
 use Rattle.mk_txn.specs.declared.TxnId.{TxnId}
@@ -12,7 +12,7 @@ use Rattle.mk_txn.specs.Transactions.{same_id, id_before}
 use Rattle.mk_txn.specs.MarkMaps.{MarkMap, covers}
 use Rattle.mk_txn.proofs.IdOrder.{id_before-through, id_before-not_same, id_before-not_back, id-from_neither, same_id-tells, same_id-itself}
 use Rattle.mk_trim.specs.KeptOutcomes.{Outcomes, AreInIdOrder, put_outcome, outcome_of, not_covered}
-use Rattle.mk_trim.specs.Places.{place_of}
+use Rattle.mk_trim.specs.Places.{place_of, has_outcome}
 
 -- ---- by place
 
@@ -73,11 +73,6 @@ place_of-unique id xs r fits h =
 
 -- ---- what stands at the place
 
--- the outcome of this attempt, where it is this attempt's
-abbrev pub outcome_if_same : TxnId → Option (TxnId × Outcome) → Option Outcome
-outcome_if_same id None = None
-outcome_if_same id (Some outcome) = if same_id outcome.0 id then Some outcome.1 else None
-
 not_after : (id : TxnId) (xs : Outcomes) → Each (λ later. same_id later.0 id ≡ false) xs → outcome_of id xs ≡ None
 not_after id [] h = refl
 not_after id (x ∷ xs) h = ap (λ b. if b then Some x.1 else outcome_of id xs) h.0 ∙ not_after id xs h.1
@@ -90,65 +85,74 @@ others_after id x xs e h = Each-weaker (λ later. id_before x.0 later.0 ≡ true
     other later k true f = absurd (false≢true (sym e ∙ subst (λ other. id_before x.0 other ≡ true) (same_id-tells later.0 id f) k))
     other later k false f = refl
 
-pub outcome_of-place : (id : TxnId) (xs : Outcomes) → AreInIdOrder xs → outcome_of id xs ≡ outcome_if_same id (slice_get xs (place_of id xs))
-outcome_of-place id [] h = refl
-outcome_of-place id (x ∷ xs) h = by_order (outcome_of-place id xs h.1) (id_before x.0 id) refl
-  where
-    by_same : id_before x.0 id ≡ false → (c : Bool) → (if c then Some x.1 else outcome_of id xs) ≡ (if c then Some x.1 else None)
-    by_same e true = refl
-    by_same e false = not_after id xs (others_after id x xs e h.0)
-    by_order : outcome_of id xs ≡ outcome_if_same id (slice_get xs (place_of id xs)) → (b : Bool) → id_before x.0 id ≡ b → outcome_of id (x ∷ xs) ≡ outcome_if_same id (slice_get (x ∷ xs) (if b then suc (place_of id xs) else 0))
-    by_order more true e = ap (λ b. if b then Some x.1 else outcome_of id xs) (id_before-not_same x.0 id e) ∙ more
-    by_order more false e = by_same e (same_id x.0 id)
-
 -- ---- an outcome put at its place
 
--- whether the attempt has an outcome
-there : TxnId → Outcomes → Bool
-there id [] = false
-there id (x ∷ xs) = if id_before x.0 id then there id xs else same_id x.0 id
-
-put-there : (id : TxnId) (outcome : Outcome) (xs : Outcomes) → put_outcome id outcome xs ≡ (if there id xs then xs else insert xs (place_of id xs) (id, outcome))
-unfolding there
-put-there id outcome [] = refl
-put-there id outcome (x ∷ xs) = by_order (put-there id outcome xs) (id_before x.0 id)
+put_outcome-has : (id : TxnId) (outcome : Outcome) (xs : Outcomes) → put_outcome id outcome xs ≡ (if has_outcome id xs then xs else insert xs (place_of id xs) (id, outcome))
+put_outcome-has id outcome [] = refl
+put_outcome-has id outcome (x ∷ xs) = by_order (put_outcome-has id outcome xs) (id_before x.0 id)
   where
     by_there : (t : Bool) → x ∷ (if t then xs else insert xs (place_of id xs) (id, outcome)) ≡ (if t then x ∷ xs else insert (x ∷ xs) (suc (place_of id xs)) (id, outcome))
     by_there true = refl
     by_there false = refl
+
     by_same : (c : Bool) → (if c then x ∷ xs else (id, outcome) ∷ x ∷ xs) ≡ (if c then x ∷ xs else insert (x ∷ xs) 0 (id, outcome))
     by_same true = refl
     by_same false = refl
-    by_order : put_outcome id outcome xs ≡ (if there id xs then xs else insert xs (place_of id xs) (id, outcome)) → (b : Bool) → (if b then x ∷ put_outcome id outcome xs else (if same_id x.0 id then x ∷ xs else (id, outcome) ∷ x ∷ xs)) ≡ (if (if b then there id xs else same_id x.0 id) then x ∷ xs else insert (x ∷ xs) (if b then suc (place_of id xs) else 0) (id, outcome))
-    by_order more true = ap (λ ys. x ∷ ys) more ∙ by_there (there id xs)
+
+    by_order : put_outcome id outcome xs ≡ (if has_outcome id xs then xs else insert xs (place_of id xs) (id, outcome)) → (b : Bool) → (if b then x ∷ put_outcome id outcome xs else (if same_id x.0 id then x ∷ xs else (id, outcome) ∷ x ∷ xs)) ≡ (if (if b then has_outcome id xs else same_id x.0 id) then x ∷ xs else insert (x ∷ xs) (if b then suc (place_of id xs) else 0) (id, outcome))
+    by_order more true = ap (λ ys. x ∷ ys) more ∙ by_there (has_outcome id xs)
     by_order more false = by_same (same_id x.0 id)
 
-there-at : (id : TxnId) (xs : Outcomes) (d : TxnId × Outcome) → place_of id xs < length xs → there id xs ≡ same_id (get_or xs (place_of id xs) d).0 id
-unfolding there
-there-at id [] d lt = absurd (omega (arith, lt))
-there-at id (x ∷ xs) d lt = by_order (there-at id xs d) (id_before x.0 id) lt
+has_outcome-at : (id : TxnId) (xs : Outcomes) (d : TxnId × Outcome) → place_of id xs < length xs → has_outcome id xs ≡ same_id (get_or xs (place_of id xs) d).0 id
+has_outcome-at id [] d lt = absurd (omega (arith, lt))
+has_outcome-at id (x ∷ xs) d lt = by_order (has_outcome-at id xs d) (id_before x.0 id) lt
   where
-    by_order : (place_of id xs < length xs → there id xs ≡ same_id (get_or xs (place_of id xs) d).0 id) → (b : Bool) → (if b then suc (place_of id xs) else 0) < suc (length xs) → (if b then there id xs else same_id x.0 id) ≡ same_id (get_or (x ∷ xs) (if b then suc (place_of id xs) else 0) d).0 id
+    by_order : (place_of id xs < length xs → has_outcome id xs ≡ same_id (get_or xs (place_of id xs) d).0 id) → (b : Bool) → (if b then suc (place_of id xs) else 0) < suc (length xs) → (if b then has_outcome id xs else same_id x.0 id) ≡ same_id (get_or (x ∷ xs) (if b then suc (place_of id xs) else 0) d).0 id
     by_order more true lt = more (omega (arith, lt))
     by_order more false lt = refl
 
-there-past : (id : TxnId) (xs : Outcomes) → length xs ≤ place_of id xs → there id xs ≡ false
-unfolding there
-there-past id [] le = refl
-there-past id (x ∷ xs) le = by_order (there-past id xs) (id_before x.0 id) le
+has_outcome-past : (id : TxnId) (xs : Outcomes) → length xs ≤ place_of id xs → has_outcome id xs ≡ false
+has_outcome-past id [] le = refl
+has_outcome-past id (x ∷ xs) le = by_order (has_outcome-past id xs) (id_before x.0 id) le
   where
-    by_order : (length xs ≤ place_of id xs → there id xs ≡ false) → (b : Bool) → suc (length xs) ≤ (if b then suc (place_of id xs) else 0) → (if b then there id xs else same_id x.0 id) ≡ false
+    by_order : (length xs ≤ place_of id xs → has_outcome id xs ≡ false) → (b : Bool) → suc (length xs) ≤ (if b then suc (place_of id xs) else 0) → (if b then has_outcome id xs else same_id x.0 id) ≡ false
     by_order more true le = more (omega (arith, le))
     by_order more false le = absurd (omega (arith, le))
 
-pub put_outcome-there : (id : TxnId) (outcome : Outcome) (xs : Outcomes) (d : TxnId × Outcome) → place_of id xs < length xs → same_id (get_or xs (place_of id xs) d).0 id ≡ true → put_outcome id outcome xs ≡ xs
-put_outcome-there id outcome xs d lt e = put-there id outcome xs ∙ ap (λ b. if b then xs else insert xs (place_of id xs) (id, outcome)) (there-at id xs d lt ∙ e)
+-- the outcome of an attempt that has one, at its place
+outcome_of-has : (id : TxnId) (xs : Outcomes) (d : TxnId × Outcome) → AreInIdOrder xs → outcome_of id xs ≡ (if has_outcome id xs then Some (get_or xs (place_of id xs) d).1 else None)
+outcome_of-has id [] d h = refl
+outcome_of-has id (x ∷ xs) d h = by_order (outcome_of-has id xs d h.1) (id_before x.0 id) refl
+  where
+    by_same : id_before x.0 id ≡ false → (c : Bool) → (if c then Some x.1 else outcome_of id xs) ≡ (if c then Some x.1 else None)
+    by_same e true = refl
+    by_same e false = not_after id xs (others_after id x xs e h.0)
 
-pub put_outcome-other : (id : TxnId) (outcome : Outcome) (xs : Outcomes) (d : TxnId × Outcome) → place_of id xs < length xs → same_id (get_or xs (place_of id xs) d).0 id ≡ false → put_outcome id outcome xs ≡ insert xs (place_of id xs) (id, outcome)
-put_outcome-other id outcome xs d lt e = put-there id outcome xs ∙ ap (λ b. if b then xs else insert xs (place_of id xs) (id, outcome)) (there-at id xs d lt ∙ e)
+    by_order : outcome_of id xs ≡ (if has_outcome id xs then Some (get_or xs (place_of id xs) d).1 else None) → (b : Bool) → id_before x.0 id ≡ b → outcome_of id (x ∷ xs) ≡ (if (if b then has_outcome id xs else same_id x.0 id) then Some (get_or (x ∷ xs) (if b then suc (place_of id xs) else 0) d).1 else None)
+    by_order more true e = ap (λ b. if b then Some x.1 else outcome_of id xs) (id_before-not_same x.0 id e) ∙ more
+    by_order more false e = by_same e (same_id x.0 id)
 
-pub put_outcome-last : (id : TxnId) (outcome : Outcome) (xs : Outcomes) → length xs ≤ place_of id xs → put_outcome id outcome xs ≡ insert xs (place_of id xs) (id, outcome)
-put_outcome-last id outcome xs le = put-there id outcome xs ∙ ap (λ b. if b then xs else insert xs (place_of id xs) (id, outcome)) (there-past id xs le)
+-- ---- the same, at a number that is the place
+
+pub has_outcome-there : (id : TxnId) (xs : Outcomes) (place : ℕ) (d : TxnId × Outcome) → place ≡ place_of id xs → place < length xs → same_id (get_or xs place d).0 id ≡ has_outcome id xs
+has_outcome-there id xs place d e lt = ap (λ k. same_id (get_or xs k d).0 id) e ∙ sym (has_outcome-at id xs d (subst (λ k. k < length xs) e lt))
+
+pub has_outcome-none : (id : TxnId) (xs : Outcomes) (place : ℕ) → place ≡ place_of id xs → length xs ≤ place → nat_lt place (length xs) ≡ has_outcome id xs
+has_outcome-none id xs place e le =
+    let past : nat_lt place (length xs) ≡ false = grind (arith, nat_tests, le) in
+    past ∙ sym (has_outcome-past id xs (subst (λ k. length xs ≤ k) e le))
+
+pub outcome_of-there : (id : TxnId) (xs : Outcomes) (place : ℕ) (d : TxnId × Outcome) (b : Bool) → AreInIdOrder xs → place ≡ place_of id xs → b ≡ has_outcome id xs → (if b then Some (get_or xs place d).1 else None) ≡ outcome_of id xs
+outcome_of-there id xs place d b h e f =
+    ap (λ k. if b then Some (get_or xs k d).1 else None) e
+    ∙ ap (λ c. if c then Some (get_or xs (place_of id xs) d).1 else None) f
+    ∙ sym (outcome_of-has id xs d h)
+
+pub put_outcome-there : (id : TxnId) (outcome : Outcome) (xs : Outcomes) (place : ℕ) (b : Bool) → place ≡ place_of id xs → b ≡ has_outcome id xs → (if b then xs else insert xs place (id, outcome)) ≡ put_outcome id outcome xs
+put_outcome-there id outcome xs place b e f =
+    ap (λ k. if b then xs else insert xs k (id, outcome)) e
+    ∙ ap (λ c. if c then xs else insert xs (place_of id xs) (id, outcome)) f
+    ∙ sym (put_outcome-has id outcome xs)
 
 -- ---- what keeps the order
 

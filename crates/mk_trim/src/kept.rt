@@ -44,7 +44,8 @@ impl Kept {
         if self.marks.covers(id) {
             return Ok(());
         }
-        put(&mut self.outcomes, id, outcome)
+        put(&mut self.outcomes, id, outcome)?;
+        Ok(())
     }
 
     /// Raises each client's mark to what it is in `marks`, and forgets the outcomes that are covered then.
@@ -90,14 +91,20 @@ impl Kept {
     pub fn commits(&self) -> u64
         ensures { result ≡ commit_count self.now.outcomes }
     {
-        self.outcomes.iter().filter(|outcome| outcome.1 == Outcome::Commit).count() as u64
+        self.outcomes
+            .iter()
+            .filter(|outcome| outcome.1 == Outcome::Commit)
+            .count() as u64
     }
 
     /// How many of the kept outcomes are aborts.
     pub fn aborts(&self) -> u64
         ensures { result ≡ abort_count self.now.outcomes }
     {
-        self.outcomes.iter().filter(|outcome| outcome.1 != Outcome::Commit).count() as u64
+        self.outcomes
+            .iter()
+            .filter(|outcome| outcome.1 != Outcome::Commit)
+            .count() as u64
     }
 
     pub fn copy(&self) -> Result<Kept, NoMemory>

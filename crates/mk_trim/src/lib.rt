@@ -5,6 +5,8 @@ mod kept;
 mod outcomes;
 mod runs;
 mod settled;
+#[cfg(test)]
+mod tests;
 
 pub use kept::Kept;
 pub use settled::Settled;

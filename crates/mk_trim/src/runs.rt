@@ -27,6 +27,7 @@ fn has(ids: &BTreeSet<TxnId>, client: u32, seq: u32) -> bool
 
 // Takes out the attempts that follow this one, up to `end`.
 pub(crate) fn drop_run(ids: &mut BTreeSet<TxnId>, id: TxnId, end: u32)
+    requires { id.seq ≤ end }
     ensures { (other : Attempt) → holds ids.new.keys other ≡ (holds ids.old.keys other && not (other.client == id.client && nat_lt id.seq other.seq && nat_le other.seq end)) }
 {
     let mut seq = id.seq;
