@@ -1,5 +1,5 @@
 -- Outcomes in order of attempt: the place of an attempt, what stands there, and what keeps the order.
-use Rattle.std.proofs.Common.{◌≡◌, ◌∙◌, ◌<◌, ◌≤◌, ◌+◌, ℕ, zero, suc, Bool, true, false, refl, sym, ap, subst, arith, List, [], ◌∷◌, ◌++◌, length, get_or, take, drop, filter, not, nat_lt, Option, Some, None, if◌then◌else◌}
+use Rattle.std.proofs.Common.{◌≡◌, ◌∙◌, ◌<◌, ◌≤◌, ℕ, zero, suc, Bool, true, false, refl, sym, ap, subst, arith, [], ◌∷◌, length, get_or, filter, not, nat_lt, Some, None, if◌then◌else◌}
 use Rattle.std.proofs.lemmas.Bool.{false≢true}
 use Rattle.std.proofs.lemmas.Bool.Decides.{nat_tests}
 use Rattle.std.specs.List.{insert}
@@ -10,7 +10,7 @@ use Rattle.mk_txn.specs.declared.Outcome.{Outcome}
 use Rattle.mk_txn.specs.declared.Outcome.TheVariants.{Commit}
 use Rattle.mk_txn.specs.Transactions.{same_id, id_before}
 use Rattle.mk_txn.specs.MarkMaps.{MarkMap, covers}
-use Rattle.mk_txn.proofs.IdOrder.{id_before-through, id_before-not_same, id_before-not_back, id-from_neither, same_id-tells, same_id-itself}
+use Rattle.mk_txn.proofs.IdOrder.{id_before-through, id_before-not_same, id-from_neither, same_id-tells, same_id-itself}
 use Rattle.mk_trim.specs.KeptOutcomes.{Outcomes, AreInIdOrder, put_outcome, outcome_of, not_covered}
 use Rattle.mk_trim.specs.Places.{place_of, has_outcome}
 

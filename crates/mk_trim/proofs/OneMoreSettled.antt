@@ -8,7 +8,7 @@ use Rattle.mk_txn.specs.Transactions.{same_id, id_cmp}
 use Rattle.mk_txn.specs.MarkMaps.{MarkMap, IsMarkMap, mark_of, covers, raised}
 use Rattle.mk_txn.proofs.IdOrder.{id_cmp-equal, same_id-tells}
 use Rattle.mk_txn.proofs.MarkLaws.{mark_of-raised, mark_of-raised_other}
-use Rattle.mk_trim.specs.SettledAttempts.{SettledAttempts, holds, is_settled, IsSettled, IsMark}
+use Rattle.mk_trim.specs.SettledAttempts.{holds, is_settled, IsSettled}
 
 -- ---- sets of the library
 

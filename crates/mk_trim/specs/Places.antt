@@ -1,5 +1,5 @@
 -- Places in a list of outcomes that stand in order of attempt.
-use Rattle.std.specs.Prelude.{ℕ, zero, suc, Bool, false, List, [], ◌∷◌, if◌then◌else◌}
+use Rattle.std.specs.Prelude.{ℕ, suc, Bool, false, [], ◌∷◌, if◌then◌else◌}
 use Rattle.mk_txn.specs.declared.TxnId.{TxnId}
 use Rattle.mk_txn.specs.Transactions.{id_before, same_id}
 use Rattle.mk_trim.specs.KeptOutcomes.{Outcomes}

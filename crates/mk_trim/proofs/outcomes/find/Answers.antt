@@ -1,7 +1,5 @@
 use Rattle.std.proofs.Common.{true, false}
-use Rattle.mk_txn.specs.declared.Outcome.{Outcome}
 use Rattle.mk_txn.specs.declared.Outcome.TheVariants.{Commit}
-use Rattle.mk_txn.specs.declared.TxnId.{TxnId}
 use Rattle.mk_trim.proofs.InOrder.{outcome_of-there}
 use Rattle.mk_trim.proofs.outcomes.find.Goals as goal
 

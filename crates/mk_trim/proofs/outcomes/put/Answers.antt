@@ -1,4 +1,4 @@
-use Rattle.std.proofs.Common.{◌≡◌, ◌∙◌, ap, true, false}
+use Rattle.std.proofs.Common.{◌∙◌, ap, true, false}
 use Rattle.mk_trim.specs.Places.{place_of, has_outcome}
 use Rattle.mk_trim.proofs.InOrder.{put_outcome-there}
 use Rattle.mk_trim.proofs.outcomes.put.Goals as goal

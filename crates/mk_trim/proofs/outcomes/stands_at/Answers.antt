@@ -1,4 +1,4 @@
-use Rattle.std.proofs.Common.{◌≡◌, ◌∙◌}
+use Rattle.std.proofs.Common.{◌∙◌}
 use Rattle.mk_txn.specs.declared.Outcome.TheVariants.{Commit}
 use Rattle.mk_trim.proofs.InOrder.{has_outcome-there, has_outcome-none}
 use Rattle.mk_trim.proofs.outcomes.stands_at.Goals as goal

@@ -1,5 +1,3 @@
-use Rattle.std.proofs.Common.{subst, sym}
-use Rattle.mk_trim.specs.KeptOutcomes.{AreInIdOrder, not_covered}
 use Rattle.mk_trim.proofs.InOrder.{AreInIdOrder-filter, Each-not_covered}
 use Rattle.mk_trim.proofs.kept.Kept.cover.Goals as goal
 

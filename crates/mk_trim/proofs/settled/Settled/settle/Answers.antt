@@ -1,7 +1,6 @@
-use Rattle.std.proofs.Common.{◌≡◌, ◌∙◌, ◌<◌, ◌+◌, ◌||◌, ap, sym, subst, arith}
+use Rattle.std.proofs.Common.{◌∙◌, ◌||◌, ap, arith}
 use Rattle.mk_txn.specs.Transactions.{same_id}
-use Rattle.mk_txn.specs.MarkMaps.{mark_of}
-use Rattle.mk_trim.specs.SettledAttempts.{is_settled, IsSettled}
+use Rattle.mk_trim.specs.SettledAttempts.{is_settled}
 use Rattle.mk_trim.proofs.OneMoreSettled.{holds-inserted, is_settled-above, IsSettled-above, is_settled-run, IsSettled-run}
 use Rattle.mk_trim.proofs.settled.Settled.settle.Goals as goal
 
