@@ -1,22 +1,14 @@
 -- Acts and answers: which are equal, and which answers an act can get.
-use Rattle.std.specs.Prelude.{Bool, true, false, not, ◌&&◌, ◌==◌}
+use Rattle.std.specs.Prelude.{Bool, true, false, not, ◌&&◌}
 use Rattle.mk_txn.specs.declared.Stamp.{Stamp}
-use Rattle.mk_txn.specs.declared.Value.{Value}
-use Rattle.mk_txn.specs.declared.Value.TheVariants.{Number, Absent}
 use Rattle.mk_txn.specs.declared.Reason.{Reason}
 use Rattle.mk_txn.specs.declared.Reason.TheVariants.{ReadStale, ReadPending, WriteLate, WritePending}
 use Rattle.mk_txn.specs.Stamps.{same_stamp}
+use Rattle.mk_txn.specs.Transactions.{same_value}
 use Rattle.mk_cell.specs.declared.Act.{Act}
 use Rattle.mk_cell.specs.declared.Act.TheVariants.{Get, CheckRead, CheckWrite, CommitRead, CommitWrite, ReleaseRead, ReleaseWrite}
 use Rattle.mk_cell.specs.declared.Answer.{Answer}
 use Rattle.mk_cell.specs.declared.Answer.TheVariants.{Version, Okay, Refused, Done}
-
--- whether two values are equal
-abbrev pub same_value : Value → Value → Bool
-same_value (Number n) (Number m) = n == m
-same_value Absent Absent = true
-same_value (Number n) Absent = false
-same_value Absent (Number m) = false
 
 -- whether two acts are equal
 abbrev pub same_act : Act → Act → Bool

@@ -10,7 +10,7 @@ use Rattle.mk_txn.specs.Transactions.{Transaction}
 use Rattle.mk_record.specs.declared.Entry.{Entry}
 use Rattle.mk_record.specs.Entries.{opened, with_vote, with_promise, with_last}
 use Rattle.mk_msg.specs.declared.Body.TheVariants.{Validate as ValidateBody}
-use Rattle.mk_trim.specs.Keeping.{nothing_kept}
+use Rattle.mk_trim.specs.KeptOutcomes.{nothing_kept}
 use Rattle.mk_merge.specs.declared.Phase.TheVariants.{Serving}
 use Rattle.mk_merge.specs.declared.ReplicaView.{ReplicaView}
 use Rattle.mk_column.specs.ColumnState.{ColumnState, Setting, new_column, client_mark, mark_sent, AttemptState}

@@ -9,7 +9,7 @@ use Rattle.mk_txn.specs.declared.Known.{Known}
 use Rattle.mk_txn.specs.declared.Known.TheVariants.{Outcome as KnownOutcome, Absent, Forgotten}
 use Rattle.mk_msg.specs.declared.Msg.{Msg}
 use Rattle.mk_msg.specs.declared.Body.TheVariants.{Moved as MovedBody}
-use Rattle.mk_trim.specs.Keeping.{KeptOutcomes, nothing_kept}
+use Rattle.mk_trim.specs.KeptOutcomes.{KeptOutcomes, nothing_kept}
 use Rattle.mk_merge.specs.declared.Phase.TheVariants.{Serving, Paused, Lacking}
 use Rattle.mk_column.specs.declared.Step.TheVariants.{Begin, Unread, Stamp, Validate, Take, Rule, Again, Takeover, Pick, Stop}
 use Rattle.mk_column.specs.ColumnState.{ColumnState, Setting, new_column, attempt_of, client_of}

@@ -7,7 +7,7 @@ use Rattle.mk_txn.specs.declared.Value.TheVariants.{Number}
 use Rattle.mk_txn.specs.declared.Outcome.TheVariants.{Commit}
 use Rattle.mk_cell.specs.declared.Act.TheVariants.{CheckWrite, CommitWrite}
 use Rattle.mk_cell.specs.declared.Answer.TheVariants.{Okay, Done}
-use Rattle.mk_trim.specs.Keeping.{nothing_kept}
+use Rattle.mk_trim.specs.KeptOutcomes.{nothing_kept}
 use Rattle.mk_merge.specs.declared.Phase.TheVariants.{Serving}
 use Rattle.mk_merge.specs.declared.ReplicaView.{ReplicaView}
 use Rattle.mk_column.specs.declared.Step.{Step}

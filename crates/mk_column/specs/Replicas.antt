@@ -14,7 +14,7 @@ use Rattle.mk_msg.specs.declared.Body.TheVariants.{Validate as ValidateBody, Vot
 use Rattle.mk_quorum.specs.Slots.{passes}
 use Rattle.mk_valid.specs.Checks.{KeyAct, finish_acts}
 use Rattle.mk_valid.specs.Validations.{validation_of}
-use Rattle.mk_trim.specs.Keeping.{fate_of}
+use Rattle.mk_trim.specs.KeptOutcomes.{known_of}
 use Rattle.mk_merge.specs.declared.Phase.{Phase}
 use Rattle.mk_merge.specs.declared.Phase.TheVariants.{Serving, Paused, Adopted, Lacking}
 use Rattle.mk_merge.specs.declared.ReplicaView.{ReplicaView}
@@ -138,7 +138,7 @@ reaction txn held msg entry (MovedBody moved) = ignored held
 -- a replica of a later epoch answers all but a Decide with its epoch and what its base knows
 abbrev pub moved_reaction : ReplicaView → Held → Msg → Body → Reaction
 moved_reaction view held msg (Decide outcome) = ignored held
-moved_reaction view held msg _ = answering held msg (MovedBody (record { to = view.epoch; fate = fate_of view.fates msg.id }))
+moved_reaction view held msg _ = answering held msg (MovedBody (record { to = view.epoch; fate = known_of view.fates msg.id }))
 
 -- the phase in which messages are taken
 abbrev pub is_serving : Phase → Bool

@@ -113,6 +113,11 @@ pub enum ColumnError {
 }
 
 impl From<NoMemory> for ColumnError {
+    ghost use Rattle.std.specs.Prelude.{◌≡◌};
+    ghost use Rattle.mk_column.specs.declared.ColumnError.TheVariants as errors;
+
+    ghost from_gives = { λ _ error. error ≡ errors.NoMemory };
+
     fn from(_: NoMemory) -> ColumnError {
         ColumnError::NoMemory
     }

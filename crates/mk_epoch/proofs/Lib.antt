@@ -1,1 +1,4 @@
+pub mod EpochOrder
+pub mod Majorities
+pub mod OnePromise
 mod EpochRows

@@ -1,7 +1,7 @@
 -- What each global line answers, with the refusals in their order.
 use Rattle.std.specs.Prelude.{ℕ, Bool, true, false, not, ◌||◌, nat_lt, nat_le, length, Option, Some, None, slice_get, is_some, if◌then◌else◌}
 use Rattle.mk_quorum.specs.Sizes.{majority_of}
-use Rattle.mk_trim.specs.Keeping.{commits_among, aborts_among}
+use Rattle.mk_trim.specs.KeptOutcomes.{commit_count, abort_count}
 use Rattle.mk_merge.specs.declared.Phase.{Phase}
 use Rattle.mk_merge.specs.declared.Phase.TheVariants.{Serving, Paused, Adopted, Lacking}
 use Rattle.mk_merge.specs.Bases.{BaseState, taught_by}
@@ -31,7 +31,7 @@ promise_answer state epoch (Some replica) =
 
 -- the commits and aborts of a base that its marks do not cover
 abbrev pub counts_of : BaseState → GlobalAnswer
-counts_of base = Counts (commits_among (taught_by base)) (aborts_among (taught_by base))
+counts_of base = Counts (commit_count (taught_by base)) (abort_count (taught_by base))
 
 -- merge: too few promises or not the leader's, then its leader lost, then too old
 abbrev pub merge_refusal : EpochState → ℕ → Option ReplicaState → GlobalAnswer

@@ -1,7 +1,6 @@
 //! Epoch changes: words, promises, bases and adoptions.
 #![tactic(auto)]
 
-use mk_merge::MergeError;
 use mk_txn::NoMemory;
 
 /// Why a step of an epoch change is refused.
@@ -23,16 +22,12 @@ pub enum EpochError {
 }
 
 impl From<NoMemory> for EpochError {
+    ghost use Rattle.std.specs.Prelude.{◌≡◌};
+    ghost use Rattle.mk_epoch.specs.declared.EpochError.TheVariants as errors;
+
+    ghost from_gives = { λ _ error. error ≡ errors.NoMemory };
+
     fn from(_: NoMemory) -> EpochError {
         EpochError::NoMemory
-    }
-}
-
-impl From<MergeError> for EpochError {
-    fn from(error: MergeError) -> EpochError {
-        match error {
-            MergeError::Short(promises) => EpochError::Short(promises),
-            MergeError::NoMemory => EpochError::NoMemory,
-        }
     }
 }

@@ -1,14 +1,10 @@
 -- What holds of every run that could have happened.
-use Rattle.std.specs.Prelude.{◌≡◌, ◌≤◌, true, List, filter}
+use Rattle.std.specs.Prelude.{◌≡◌, ◌≤◌, true, List}
 use Rattle.mk_lists.specs.Among.{Among}
 use Rattle.mk_txn.specs.declared.TxnId.{TxnId}
-use Rattle.mk_txn.specs.declared.Stamp.{Stamp}
-use Rattle.mk_txn.specs.declared.ReadItem.{ReadItem}
-use Rattle.mk_txn.specs.LatestWrites.{first_version, latest_write}
 use Rattle.mk_txn.specs.MarkMaps.{covers}
 use Rattle.mk_txn.specs.Outcomes.{agrees}
-use Rattle.mk_txn.specs.Stamps.{is_before}
-use Rattle.mk_txn.specs.Transactions.{Transaction}
+use Rattle.mk_replay.specs.Explained.{IsExplained}
 use Rattle.mk_column.specs.ColumnState.{ColumnState, AttemptState, is_settled}
 use Rattle.mk_epoch.specs.EpochState.{MadeBase}
 use Rattle.mk_history.specs.Histories.{History}
@@ -21,16 +17,6 @@ use Rattle.mk_history.specs.Naming.{EachNamed}
 -- whatever two learn of one attempt, both learn that it commits or both that it aborts
 abbrev pub Agree : List Learnt → Type 0
 Agree learnings = (a b : Learnt) → Among a learnings → Among b learnings → a.id ≡ b.id → agrees a.outcome b.outcome ≡ true
-
--- the transactions with stamps below this one
-abbrev pub below : Stamp → List Transaction → List Transaction
-below stamp txns = filter (λ txn. is_before txn.stamp stamp) txns
-
--- each committed read gave the version and the value that one copy of the commits below its stamp holds
-abbrev pub Explained : List Transaction → Type 0
-Explained txns =
-    (txn : Transaction) (item : ReadItem) → Among txn txns → Among item txn.reads →
-    latest_write item.key first_version (below txn.stamp txns) ≡ record { version = item.version; value = item.value }
 
 -- the run has this attempt, and its own coordinator has learned or it is unread
 pub record IsSettled (run : History) (id : TxnId) : Type 0 where
@@ -49,7 +35,7 @@ MarksCoverSettled run =
 -- agreement, the one copy, causes and marks
 pub record IsSafe (run : History) : Type 0 where
   pub agree : Agree (learned run)
-  pub explained : Explained (commits run)
+  pub explained : IsExplained (commits run)
   pub named : EachNamed run
   pub marks : MarksCoverSettled run
 

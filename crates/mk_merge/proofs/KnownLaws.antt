@@ -1,24 +1,18 @@
 -- What is kept of a base knows what the base knows.
 use Rattle.std.proofs.Common.{◌≡◌, Bool, true, false, refl, arith, sym, ap, ◌∙◌, List, [], ◌∷◌}
-use Rattle.std.specs.Prelude.{Option}
-use Rattle.std.proofs.lemmas.Bool.Decides.{nat_tests}
+use Rattle.std.specs.Prelude.{if◌then◌else◌}
 use Rattle.mk_txn.specs.declared.TxnId.{TxnId}
-use Rattle.mk_txn.specs.declared.Outcome.{Outcome}
+use Rattle.mk_txn.specs.declared.Known.TheVariants.{Forgotten}
 use Rattle.mk_txn.specs.MarkMaps.{MarkMap, covers}
 use Rattle.mk_txn.specs.Transactions.{same_id}
-use Rattle.mk_trim.specs.Keeping.{KnownFate, fate_of, known_by, uncovered, outcome_in}
+use Rattle.mk_txn.proofs.IdOrder.{same_id-tells}
+use Rattle.mk_trim.specs.KeptOutcomes.{Outcomes, known_of, known_outcome, not_covered, outcome_of}
 use Rattle.mk_merge.specs.declared.Fated.{Fated}
-use Rattle.mk_merge.specs.Bases.{BaseState, known, kept_of, fate_in, fates_in}
+use Rattle.mk_merge.specs.Bases.{BaseState, known, kept_of, taught_by, fate_in, fates_in}
 
-fate_in-fates_in : (id : TxnId) (list : List Fated) → outcome_in (fates_in list) id ≡ fate_in id list
+fate_in-fates_in : (id : TxnId) (list : List Fated) → outcome_of id (fates_in list) ≡ fate_in id list
 fate_in-fates_in id [] = refl
 fate_in-fates_in id (f ∷ list) = grind (arith, fate_in-fates_in id list)
-
-same_id-tells : (a b : TxnId) → same_id a b ≡ true → a ≡ b
-same_id-tells a b h =
-    let c : a.client ≡ b.client = grind (arith, nat_tests) in
-    let s : a.seq ≡ b.seq = grind (arith, nat_tests) in
-    λ i. record { client = c i; seq = s i }
 
 -- where a mark covers one of two equal numbers, it covers the other
 apart : (marks : MarkMap) (a id : TxnId) → covers marks id ≡ false → covers marks a ≡ true → same_id a id ≡ false
@@ -28,18 +22,16 @@ apart marks a id n c = head (same_id a id) refl
     head false e = e
     head true e = absurd (cc (sym n ∙ (ap (covers marks) (sym (same_id-tells a id e)) ∙ c)))
 
-outcome_in-uncovered : (marks : MarkMap) (outcomes : List KnownFate) (id : TxnId) → covers marks id ≡ false →
-    outcome_in (uncovered marks outcomes) id ≡ outcome_in outcomes id
-outcome_in-uncovered marks [] id n = refl
-outcome_in-uncovered marks (fate ∷ outcomes) id n = grind (arith, outcome_in-uncovered marks outcomes id n, apart marks fate.0 id n)
-
-forgotten : (marks : MarkMap) (one other : Option Outcome) (id : TxnId) → covers marks id ≡ true → known_by marks one id ≡ known_by marks other id
-forgotten marks one other id e = grind (arith, e)
+outcome_of-not_covered : (marks : MarkMap) (outcomes : Outcomes) (id : TxnId) → covers marks id ≡ false →
+    outcome_of id (not_covered marks outcomes) ≡ outcome_of id outcomes
+outcome_of-not_covered marks [] id n = refl
+outcome_of-not_covered marks (fate ∷ outcomes) id n = grind (arith, outcome_of-not_covered marks outcomes id n, apart marks fate.0 id n)
 
 -- the outcome that is kept tells the same as the whole list, since covered attempts are forgotten either way
-pub known-kept : (base : BaseState) (id : TxnId) → fate_of (kept_of base) id ≡ known base id
-known-kept base id = head (covers base.marks id) refl
+pub known-kept : (base : BaseState) (id : TxnId) → known_of (kept_of base) id ≡ known base id
+known-kept base id = head (covers base.marks id) (λ n. outcome_of-not_covered base.marks (fates_in base.list) id n ∙ fate_in-fates_in id base.list) refl
   where
-    head : (b : Bool) → covers base.marks id ≡ b → fate_of (kept_of base) id ≡ known base id
-    head true e = forgotten base.marks _ _ id e
-    head false e = ap (λ o. known_by base.marks o id) (outcome_in-uncovered base.marks (fates_in base.list) id e ∙ fate_in-fates_in id base.list)
+    head : (b : Bool) → (covers base.marks id ≡ false → outcome_of id (taught_by base) ≡ fate_in id base.list) → covers base.marks id ≡ b →
+        (if b then Forgotten else known_outcome (outcome_of id (taught_by base))) ≡ (if b then Forgotten else known_outcome (fate_in id base.list))
+    head true same e = refl
+    head false same e = ap known_outcome (same e)

@@ -11,7 +11,7 @@ use Rattle.mk_txn.specs.Stamps.{zero_stamp}
 use Rattle.mk_txn.specs.Transactions.{Transaction}
 use Rattle.mk_cell.specs.Cells.{settled_cell}
 use Rattle.mk_record.specs.declared.Entry.{Entry}
-use Rattle.mk_trim.specs.Keeping.{commits_among, aborts_among}
+use Rattle.mk_trim.specs.KeptOutcomes.{commit_count, abort_count}
 use Rattle.mk_merge.specs.Bases.{BaseState, empty_base, known, taught_by}
 use Rattle.mk_merge.specs.Rebuilding.{rebuilt, fits_base}
 use Rattle.mk_merge.specs.Promises.{PromiseState, can_merge}
@@ -95,10 +95,10 @@ pub both_stay : covering
 both_stay = refl
 
 -- a covered outcome is not counted
-pub commits_counted : commits_among (taught_by covering) ≡ 1
+pub commits_counted : commit_count (taught_by covering) ≡ 1
 commits_counted = refl
 
-pub aborts_counted : aborts_among (taught_by covering) ≡ 0
+pub aborts_counted : abort_count (taught_by covering) ≡ 0
 aborts_counted = refl
 
 pub first_forgotten : known covering (record { client = 1; seq = 1 }) ≡ Forgotten

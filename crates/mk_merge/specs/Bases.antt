@@ -4,11 +4,12 @@ use Rattle.mk_lists.specs.Among.{Each}
 use Rattle.mk_txn.specs.declared.TxnId.{TxnId}
 use Rattle.mk_txn.specs.declared.Outcome.{Outcome}
 use Rattle.mk_txn.specs.declared.Known.{Known}
+use Rattle.mk_txn.specs.declared.Known.TheVariants.{Forgotten}
 use Rattle.mk_txn.specs.Outcomes.{is_commit}
-use Rattle.mk_txn.specs.MarkMaps.{MarkMap, IsMarkMap}
+use Rattle.mk_txn.specs.MarkMaps.{MarkMap, IsMarkMap, covers}
 use Rattle.mk_txn.specs.Stamps.{is_before}
 use Rattle.mk_txn.specs.Transactions.{Transaction, same_id, id_before}
-use Rattle.mk_trim.specs.Keeping.{KnownFate, KeptOutcomes, known_by, uncovered}
+use Rattle.mk_trim.specs.KeptOutcomes.{KeptOutcomes, Outcomes, known_outcome, not_covered}
 use Rattle.mk_merge.specs.declared.Fated.{Fated}
 
 -- a list of transactions with their outcomes, and a map of marks
@@ -30,15 +31,15 @@ fate_in id list = option_map (λ f. f.outcome) (find (λ f. same_id f.txn.id id)
 
 -- what a base knows of an attempt: a covered one is forgotten
 abbrev pub known : BaseState → TxnId → Known
-known base id = known_by base.marks (fate_in id base.list) id
+known base id = if covers base.marks id then Forgotten else known_outcome (fate_in id base.list)
 
 -- the attempts of a list with their outcomes
-abbrev pub fates_in : List Fated → List KnownFate
+abbrev pub fates_in : List Fated → Outcomes
 fates_in list = map (λ f. (f.txn.id, f.outcome)) list
 
 -- the outcomes that a base's marks do not cover
-abbrev pub taught_by : BaseState → List KnownFate
-taught_by base = uncovered base.marks (fates_in base.list)
+abbrev pub taught_by : BaseState → Outcomes
+taught_by base = not_covered base.marks (fates_in base.list)
 
 -- what is kept of a base beside its writes and reads
 abbrev pub kept_of : BaseState → KeptOutcomes

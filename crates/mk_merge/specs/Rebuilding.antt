@@ -5,7 +5,7 @@ use Rattle.mk_txn.specs.Stamps.{is_before}
 use Rattle.mk_txn.specs.Transactions.{Transaction}
 use Rattle.mk_txn.specs.LatestWrites.{first_version, latest_write, latest_read}
 use Rattle.mk_cell.specs.Cells.{CellState, settled_cell}
-use Rattle.mk_trim.specs.Keeping.{KeptOutcomes}
+use Rattle.mk_trim.specs.KeptOutcomes.{KeptOutcomes}
 use Rattle.mk_merge.specs.Bases.{BaseState, commits_in, kept_of}
 
 -- the latest committed write of the key, its greatest committed read, and nothing pending; the whole list counts

@@ -64,6 +64,11 @@ pub enum MergeError {
 }
 
 impl From<NoMemory> for MergeError {
+    ghost use Rattle.std.specs.Prelude.{◌≡◌};
+    ghost use Rattle.mk_merge.specs.declared.MergeError.TheVariants as errors;
+
+    ghost from_gives = { λ _ error. error ≡ errors.NoMemory };
+
     fn from(_: NoMemory) -> MergeError {
         MergeError::NoMemory
     }

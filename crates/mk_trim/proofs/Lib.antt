@@ -1,4 +1,5 @@
 pub mod SettlingLaws
-pub mod KeepingRows
+pub mod KeptRows
 pub mod InOrder
 pub mod OneMoreSettled
+pub mod MarkIsGreatest

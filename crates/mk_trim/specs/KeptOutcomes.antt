@@ -13,6 +13,7 @@ use Rattle.mk_txn.specs.MarkMaps.{MarkMap, covers, joined_marks}
 abbrev pub Outcomes : Type 0
 Outcomes = List (TxnId × Outcome)
 
+-- outcomes in order of number, and marks
 pub record KeptOutcomes : Type 0 where
   pub outcomes : Outcomes
   pub marks : MarkMap

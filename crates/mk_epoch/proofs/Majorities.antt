@@ -1,0 +1,235 @@
+-- A majority that adopted an epoch has a member among the promises that make a later base.
+use Rattle.std.proofs.Common.{◌≡◌, ◌<◌, ◌≤◌, ℕ, zero, suc, ◌+◌, Bool, true, false, refl, arith, inl, inr, sym, ap, ◌∙◌, List, [], ◌∷◌, ◌++◌, subst, cond, not, ◌&&◌, ◌||◌, length, map, take}
+use Rattle.std.specs.Prelude.{nat_le, ◌==◌, filter}
+use Rattle.std.specs.List.{list_any}
+use Rattle.std.proofs.lemmas.Bool.Decides.{nat_tests}
+use Rattle.std.proofs.lemmas.List.Filters.{length-filter_both}
+use Rattle.std.proofs.lemmas.List.{length-take-le, length-append, map-append, length-map}
+use Rattle.mk_lists.specs.Among.{Among, AllDistinct, Each, Among-append}
+use Rattle.mk_txn.proofs.ClashFacts.{member-from_list_any}
+use Rattle.mk_quorum.specs.Counts.{count_below}
+use Rattle.mk_quorum.specs.Sizes.{members, majority_of}
+use Rattle.mk_quorum.proofs.Meeting.{majorities_meet}
+use Rattle.mk_merge.specs.Promises.{PromiseState}
+use Rattle.mk_merge.specs.Promises.{chosen, highest_adopted, leader_of, can_merge}
+use Rattle.mk_epoch.specs.EpochState.{EpochState, GivenPromise, Adoption, promises_for, ever_adopted, adopters}
+use Rattle.mk_epoch.proofs.EpochOrder.{EpochOrder}
+
+count_below-same : (n : ℕ) (p q : ℕ → Bool) → ((r : ℕ) → r < n → p r ≡ q r) → count_below n p ≡ count_below n q
+count_below-same zero p q h = refl
+count_below-same (suc n) p q h =
+    let again = count_below-same n p q (λ r lt. h r (omega (arith, lt))) in
+    let here = h n (omega arith) in
+    grind (arith, again, here)
+
+-- one more number
+count_below-add : (n x : ℕ) (p : ℕ → Bool) → x < n → p x ≡ false → count_below n (λ r. (x == r) || p r) ≡ count_below n p + 1
+count_below-add zero x p lt out = absurd (omega arith)
+count_below-add (suc n) x p lt out = by (count_below-add n x p) (x == n) refl
+  where
+    same_below : x ≡ n → count_below n (λ r. (x == r) || p r) ≡ count_below n p
+    same_below eq = count_below-same n (λ r. (x == r) || p r) p (λ r l. let k : (x == r) ≡ false = grind (arith, nat_tests, eq, l) in grind (arith, k))
+
+    by : (x < n → p x ≡ false → count_below n (λ r. (x == r) || p r) ≡ count_below n p + 1) → (b : Bool) → (x == n) ≡ b → count_below (suc n) (λ r. (x == r) || p r) ≡ count_below (suc n) p + 1
+    by again true e =
+        let eq : x ≡ n = grind (arith, nat_tests, e) in
+        let out_n : p n ≡ false = subst (λ (m : ℕ). p m ≡ false) eq out in
+        grind (arith, e, out_n, same_below eq)
+    by again false e =
+        let ne : x < n = grind (arith, nat_tests, e) in
+        grind (arith, e, again ne out)
+
+not_member : (x : ℕ) (xs : List ℕ) → ¬ (Among x xs) → list_any (λ y. y == x) xs ≡ false
+not_member x xs no_x = by (list_any (λ y. y == x) xs) refl
+  where
+    by : (b : Bool) → list_any (λ y. y == x) xs ≡ b → b ≡ false
+    by true e = let m = member-from_list_any (λ y. y == x) xs e in let eq : m.0 ≡ x = grind (arith, nat_tests, m.2) in absurd (no_x (subst (λ (y : ℕ). Among y xs) eq m.1))
+    by false e = refl
+
+pub count_distinct : (n : ℕ) (xs : List ℕ) → AllDistinct xs → Each (λ x. x < n) xs → length xs ≤ count_below n (λ r. list_any (λ x. x == r) xs)
+count_distinct n [] d e = omega arith
+count_distinct n (x ∷ xs) d e =
+    let again = count_distinct n xs d.1 e.1 in
+    omega (arith, again, count_below-add n x (λ r. list_any (λ y. y == r) xs) e.0 (not_member x xs d.0))
+
+Among-filter : {X : Type 0} (p : X → Bool) (x : X) (xs : List X) → Among x (filter p xs) → Among x xs × (p x ≡ true)
+Among-filter p x [] a = absurd a
+Among-filter {X} p x (y ∷ ys) a = by (Among-filter p x ys) (p y) refl a
+  where
+    by : (Among x (filter p ys) → Among x ys × (p x ≡ true)) → (b : Bool) → p y ≡ b → Among x (cond b (y ∷ filter p ys) (filter p ys)) → Among x (y ∷ ys) × (p x ≡ true)
+    by again true e (inl eq) = (inl eq, subst (λ (z : X). p z ≡ true) eq e)
+    by again true e (inr rest) = let k = again rest in (inr k.0, k.1)
+    by again false e rest = let k = again rest in (inr k.0, k.1)
+
+Among-take : {X : Type 0} (n : ℕ) (x : X) (xs : List X) → Among x (take n xs) → Among x xs
+Among-take zero x xs a = absurd a
+Among-take (suc n) x [] a = absurd a
+Among-take (suc n) x (y ∷ ys) (inl e) = inl e
+Among-take (suc n) x (y ∷ ys) (inr a) = inr (Among-take n x ys a)
+
+-- replicas of a list of promises
+abbrev pub replicas_of : List PromiseState → List ℕ
+replicas_of promises = map (λ p. p.replica) promises
+
+pub of_replica : (r : ℕ) (ps : List PromiseState) → Among r (replicas_of ps) → (p : PromiseState) × Among p ps × (p.replica ≡ r)
+of_replica r [] a = absurd a
+of_replica r (p ∷ ps) (inl e) = (p, inl refl, e)
+of_replica r (p ∷ ps) (inr a) = let k = of_replica r ps a in (k.0, inr k.1, k.2)
+
+in_replicas : (p : PromiseState) (ps : List PromiseState) → Among p ps → Among p.replica (replicas_of ps)
+in_replicas p [] a = absurd a
+in_replicas p (q ∷ ps) (inl e) = inl (ap (λ (x : PromiseState). x.replica) e)
+in_replicas p (q ∷ ps) (inr a) = inr (in_replicas p ps a)
+
+distinct-filter : (test : PromiseState → Bool) (ps : List PromiseState) → AllDistinct (replicas_of ps) → AllDistinct (replicas_of (filter test ps))
+distinct-filter test [] d = tt
+distinct-filter test (p ∷ ps) d = by (test p) (distinct-filter test ps d.1)
+  where
+    by : (b : Bool) → AllDistinct (replicas_of (filter test ps)) → AllDistinct (replicas_of (cond b (p ∷ filter test ps) (filter test ps)))
+    by true again = ((λ a. let k = of_replica p.replica (filter test ps) a in d.0 (subst (λ (n : ℕ). Among n (replicas_of ps)) k.2 (in_replicas k.0 ps (Among-filter test k.0 ps k.1).0))), again)
+    by false again = again
+
+distinct-take : (n : ℕ) (ps : List PromiseState) → AllDistinct (replicas_of ps) → AllDistinct (replicas_of (take n ps))
+distinct-take zero ps d = tt
+distinct-take (suc n) [] d = tt
+distinct-take (suc n) (p ∷ ps) d = ((λ a. let k = of_replica p.replica (take n ps) a in d.0 (subst (λ (m : ℕ). Among m (replicas_of ps)) k.2 (in_replicas k.0 ps (Among-take n k.0 ps k.1)))), distinct-take n ps d.1)
+
+-- an adopted epoch that a promise of the list knows is at most the highest
+highest_above : (p : PromiseState) (ps : List PromiseState) → Among p ps → p.adopted ≤ highest_adopted ps
+highest_above p [] a = absurd a
+highest_above p (q ∷ ps) (inl e) = let k : q.adopted ≡ p.adopted = ap (λ (x : PromiseState). x.adopted) e in omega (arith, k)
+highest_above p (q ∷ ps) (inr a) = omega (arith, highest_above p ps a)
+
+pub distinct-append : {X : Type 0} (xs ys : List X) → AllDistinct xs → AllDistinct ys → ((x : X) → Among x xs → Among x ys → ⊥) → AllDistinct (xs ++ ys)
+distinct-append [] ys d e apart = e
+distinct-append (x ∷ xs) ys d e apart =
+    ((λ a. elim (Among-append x xs ys a) [ inl b ↦ d.0 b | inr b ↦ apart x (inl refl) b ]), distinct-append xs ys d.1 e (λ y a b. apart y (inr a) b))
+
+same_replica-few : (r : ℕ) (ps : List PromiseState) → AllDistinct (replicas_of ps) → ((p : PromiseState) → Among p ps → p.replica ≡ r) → length ps ≤ 1
+same_replica-few r [] d h = omega arith
+same_replica-few r (p ∷ []) d h = omega arith
+same_replica-few r (p ∷ (q ∷ ps)) d h = absurd (d.0 (inl (h q (inr (inl refl)) ∙ sym (h p (inl refl)))))
+
+leads : ℕ → ℕ → PromiseState → Bool
+leads f epoch p = p.replica == leader_of f epoch
+
+pub eqb-tells : (a b : ℕ) → (a == b) ≡ true → a ≡ b
+eqb-tells a b e = grind (arith, nat_tests)
+
+not_eqb-tells : (a b : ℕ) → not (a == b) ≡ true → a ≡ b → ⊥
+not_eqb-tells a b e k = grind (arith, nat_tests)
+
+filter-some : {X : Type 0} (p : X → Bool) (xs : List X) → list_any p xs ≡ true → 1 ≤ length (filter p xs)
+filter-some p [] e = absurd (cc e)
+filter-some p (x ∷ xs) e = grind (arith, filter-some p xs)
+
+module _ (f epoch : ℕ) (ps : List PromiseState) (distinct : AllDistinct (replicas_of ps)) (may : can_merge f epoch ps ≡ true) where
+  led : List PromiseState
+  led = filter (λ p. p.replica == leader_of f epoch) ps
+
+  others : List PromiseState
+  others = filter (λ p. not (p.replica == leader_of f epoch)) ps
+
+  enough : (majority_of f ≤ length ps) × (list_any (λ p. p.replica == leader_of f epoch) ps ≡ true)
+  enough = let k = both (nat_le (majority_of f) (length ps)) (list_any (λ p. p.replica == leader_of f epoch) ps) may in (grind (arith, nat_tests, k.0), k.1)
+    where
+      both : (a b : Bool) → (a && b) ≡ true → (a ≡ true) × (b ≡ true)
+      both true b e = (refl, e)
+      both false b e = absurd (cc e)
+
+  few_led : length led ≤ 1
+  unfolding led
+  few_led = same_replica-few (leader_of f epoch) (filter (λ p. p.replica == leader_of f epoch) ps) (distinct-filter (λ p. p.replica == leader_of f epoch) ps distinct)
+      (λ p a. eqb-tells p.replica (leader_of f epoch) (Among-filter (λ q. q.replica == leader_of f epoch) p ps a).1)
+
+  one_led : 1 ≤ length led
+  unfolding led
+  one_led = filter-some (λ p. p.replica == leader_of f epoch) ps enough.1
+
+  many_others : f ≤ length others
+  unfolding led others
+  many_others = let k = length-filter_both (λ p. p.replica == leader_of f epoch) (λ p. not (p.replica == leader_of f epoch)) (λ _. refl) ps in
+      let few = few_led in let much = enough.0 in omega (arith, k, few, much)
+
+  pub chosen_enough : majority_of f ≤ length (chosen f epoch ps)
+  unfolding led others
+  chosen_enough =
+      let a = length-take-le 1 led one_led in
+      let b = length-take-le f others many_others in
+      let c = length-append (take 1 led) (take f others) in
+      omega (arith, a, b, c)
+
+  pub chosen_distinct : AllDistinct (replicas_of (chosen f epoch ps))
+  unfolding led others
+  chosen_distinct =
+      subst AllDistinct (sym (map-append (λ (p : PromiseState). p.replica) (take 1 led) (take f others)))
+      (distinct-append (replicas_of (take 1 led)) (replicas_of (take f others))
+      (distinct-take 1 led (distinct-filter (λ p. p.replica == leader_of f epoch) ps distinct))
+      (distinct-take f others (distinct-filter (λ p. not (p.replica == leader_of f epoch)) ps distinct))
+      (λ r a b.
+      let p = of_replica r (take 1 led) a in
+      let q = of_replica r (take f others) b in
+      let leader = eqb-tells p.0.replica (leader_of f epoch) (Among-filter (λ p. p.replica == leader_of f epoch) p.0 ps (Among-take 1 p.0 led p.1)).1 in
+      not_eqb-tells q.0.replica (leader_of f epoch) (Among-filter (λ p. not (p.replica == leader_of f epoch)) q.0 ps (Among-take f q.0 others q.1)).1 (q.2 ∙ sym p.2 ∙ leader)))
+
+  pub chosen_member : (p : PromiseState) → Among p (chosen f epoch ps) → Among p ps
+  chosen_member p a = elim (Among-append p (take 1 (filter (λ p. p.replica == leader_of f epoch) ps)) (take f (filter (λ p. not (p.replica == leader_of f epoch)) ps)) a) [
+    | inl b ↦ (Among-filter (λ p. p.replica == leader_of f epoch) p ps (Among-take 1 p (filter (λ p. p.replica == leader_of f epoch) ps) b)).0
+    | inr b ↦ (Among-filter (λ p. not (p.replica == leader_of f epoch)) p ps (Among-take f p (filter (λ p. not (p.replica == leader_of f epoch)) ps) b)).0
+  ]
+
+each_below : (n : ℕ) (ps : List PromiseState) → ((p : PromiseState) → Among p ps → p.replica < n) → Each (λ r. r < n) (replicas_of ps)
+each_below n [] h = tt
+each_below n (p ∷ ps) h = (h p (inl refl), each_below n ps (λ q a. h q (inr a)))
+
+-- the adoption that a test found
+adoption_of : (e : ℕ) (state : EpochState) (r : ℕ) → ever_adopted e state r ≡ true → (a : Adoption) × Among a state.adoptions × (a.epoch ≡ e) × (a.replica ≡ r)
+adoption_of e state r is =
+    let m = member-from_list_any (λ a. a.epoch == e && a.replica == r) state.adoptions is in
+    let k = both (m.0.epoch == e) (m.0.replica == r) m.2 in
+    (m.0, m.1, eqb-tells m.0.epoch e k.0, eqb-tells m.0.replica r k.1)
+  where
+    both : (a b : Bool) → (a && b) ≡ true → (a ≡ true) × (b ≡ true)
+    both true b e = (refl, e)
+    both false b e = absurd (cc e)
+
+-- a promise of the epoch was given
+pub given_of : (epoch : ℕ) (state : EpochState) (p : PromiseState) → Among p (promises_for epoch state) → (g : GivenPromise) × Among g state.promises × (g.epoch ≡ epoch) × (g.promise ≡ p)
+given_of epoch state p a = by state.promises a
+  where
+    by : (gs : List GivenPromise) → Among p (map (λ (g : GivenPromise). g.promise) (filter (λ g. g.epoch == epoch) gs)) → (g : GivenPromise) × Among g gs × (g.epoch ≡ epoch) × (g.promise ≡ p)
+    by [] a = absurd a
+    by (g ∷ gs) a = head (by gs) (g.epoch == epoch) refl a
+      where
+        head : (Among p (map (λ (x : GivenPromise). x.promise) (filter (λ x. x.epoch == epoch) gs)) → (x : GivenPromise) × Among x gs × (x.epoch ≡ epoch) × (x.promise ≡ p)) →
+            (b : Bool) → (g.epoch == epoch) ≡ b → Among p (map (λ (x : GivenPromise). x.promise) (cond b (g ∷ filter (λ x. x.epoch == epoch) gs) (filter (λ x. x.epoch == epoch) gs))) →
+            (x : GivenPromise) × Among x (g ∷ gs) × (x.epoch ≡ epoch) × (x.promise ≡ p)
+        head again true e (inl eq) = (g, inl refl, eqb-tells g.epoch epoch e, eq)
+        head again true e (inr rest) = let k = again rest in (k.0, inr k.1, k.2, k.3)
+        head again false e rest = let k = again rest in (k.0, inr k.1, k.2, k.3)
+
+-- Where a majority ever adopted an epoch, each later base is made from promises that know of it.
+pub later_bases_know : (state : EpochState) → EpochOrder state → (e later : ℕ) → e < later →
+    AllDistinct (replicas_of (promises_for later state)) → ((p : PromiseState) → Among p (promises_for later state) → p.replica < members state.faults) →
+    majority_of state.faults ≤ adopters e state → can_merge state.faults later (promises_for later state) ≡ true →
+    e ≤ highest_adopted (chosen state.faults later (promises_for later state))
+later_bases_know state h e later lt distinct inside many may =
+    let f = state.faults in
+    let ps = promises_for later state in
+    let cs = chosen f later ps in
+    let counted = count_distinct (members f) (replicas_of cs) (chosen_distinct f later ps distinct may)
+    (each_below (members f) cs (λ p a. inside p (chosen_member f later ps distinct may p a))) in
+    let long = chosen_enough f later ps distinct may in
+    let same_long = length-map cs (λ (p : PromiseState). p.replica) in
+    let m = majorities_meet f (ever_adopted e state) (λ r. list_any (λ x. x == r) (replicas_of cs)) many (omega (arith, counted, long, same_long)) in
+    let x = member-from_list_any (λ y. y == m.0) (replicas_of cs) m.3 in
+    let p = of_replica x.0 cs x.1 in
+    let g = given_of later state p.0 (chosen_member f later ps distinct may p.0 p.1) in
+    let a = adoption_of e state m.0 m.2 in
+    let by_r : a.0.replica ≡ g.0.promise.replica = a.3 ∙ sym (eqb-tells x.0 m.0 x.2) ∙ sym p.2 ∙ ap (λ (y : PromiseState). y.replica) (sym g.3) in
+    let early : a.0.epoch < g.0.epoch = (let n = a.2 in let o = g.2 in omega (arith, n, o, lt)) in
+    let knows = h.known g.0 g.1 a.0 a.1 by_r early in
+    let adopted : g.0.promise.adopted ≡ p.0.adopted = ap (λ (y : PromiseState). y.adopted) g.3 in
+    let top = highest_above p.0 cs p.1 in
+    let epoch = a.2 in
+    omega (arith, knows, adopted, top, epoch)
