@@ -1,2 +1,5 @@
 pub mod SettlingLaws
-mod KeptRows
+pub mod KeptRows
+pub mod InOrder
+pub mod OneMoreSettled
+pub mod MarkIsGreatest

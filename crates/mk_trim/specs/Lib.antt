@@ -1,3 +1,5 @@
 -- Marks of clients, and the outcomes that they leave to be kept.
 pub mod Settling
+pub mod SettledAttempts
 pub mod KeptOutcomes
+pub mod Places
