@@ -1,1 +1,13 @@
 mod OneRun
+mod RunTrials
+mod CoveredNotCounted
+mod ForgottenTeachesNothing
+mod FailingWord
+mod SupersededEpochTeaches
+mod MovedTeachesTakeover
+mod TaughtCoordinator
+mod AbortKeepsFirstCause
+mod LateVotes
+mod NobodyServes
+mod UnclearTakeover
+mod WipedAndReadmitted
