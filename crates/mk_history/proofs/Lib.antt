@@ -7,6 +7,7 @@ mod SupersededEpochTeaches
 mod MovedTeachesTakeover
 mod TaughtCoordinator
 mod AbortKeepsFirstCause
+mod AbsentValues
 mod LateVotes
 mod NobodyServes
 mod UnclearTakeover
