@@ -1,5 +1,6 @@
 //! The items of an attempt, and what it fetched so far.
-ghost use Rattle.std.specs.Prelude.{◌≡◌, ◌≤◌, [], length, IsSome, IsNone, IfSome, IfOk, OnOk, OnErr};
+ghost use Rattle.std.specs.Prelude.{◌≡◌, ◌≤◌, true, [], length, take, vec_len, IsSome, IsNone, IfSome, IfOk, OnOk, OnErr};
+ghost use Rattle.mk_txn.specs.Transactions.{read_keys, write_keys, are_distinct};
 ghost use Rattle.mk_client.specs.Wanted.{wanted_keys, next_wanted, with_read};
 ghost use Rattle.mk_client.specs.Wanted as spec;
 ghost use Rattle.mk_client.specs.Computed.{writes_of};
@@ -19,14 +20,15 @@ pub struct ClientTxn {
 }
 
 impl Model for ClientTxn {
-    ghost use Rattle.std.specs.Prelude.{◌≡◌, ◌≤◌, vec_len};
+    ghost use Rattle.std.specs.Prelude.{◌≡◌, ◌≤◌, take, vec_len};
+    ghost use Rattle.mk_txn.specs.Transactions.{read_keys};
     ghost use Rattle.mk_client.specs.Wanted.{Attempt, wanted_keys};
 
     ghost Value = { Attempt };
 
     ghost view = { λ t. record { items = t.items.items; reads = t.reads.items } };
 
-    ghost invariant = { λ t. (t.wanted.items ≡ wanted_keys t.items.items) × (vec_len t.items ≤ 16) };
+    ghost invariant = { λ t. (t.wanted.items ≡ wanted_keys t.items.items) × (vec_len t.items ≤ 16) × (read_keys t.reads.items ≡ take (vec_len t.reads) t.wanted.items) };
 }
 
 impl ClientTxn {
@@ -56,7 +58,7 @@ impl ClientTxn {
         ensures ok { OnOk result (IfSome (next_wanted self.old.items self.old.reads) (λ key. self.new ≡ with_read self.old key version value)) }
         ensures err { OnErr result (self.new ≡ self.old) }
     {
-        let key = self.wanted[self.reads.len()];
+        let key = self.wanted().unwrap();
         self.reads.push(ReadItem {
             key,
             version,
@@ -65,17 +67,22 @@ impl ClientTxn {
         Ok(())
     }
 
-    /// What was fetched so far.
+    /// What was fetched so far: at most 16 keys, each once.
     pub fn reads(&self) -> &[ReadItem]
-        ensures { result.now ≡ self.now.reads }
+        ensures reads { result.now ≡ self.now.reads }
+        ensures in_order { read_keys result.now ≡ take (length result.now) (wanted_keys self.now.items) }
+        ensures distinct { are_distinct (read_keys result.now) ≡ true }
+        ensures few { length result.now ≤ 16 }
     {
         &self.reads
     }
 
-    /// What the attempt writes, computed from what it fetched.
+    /// What the attempt writes, computed from what it fetched: at most 16 keys, each once.
     pub fn writes(&self, procs: &Procs) -> Result<Vec<WriteItem>, NoMemory>
         requires { IsNone (next_wanted self.now.items self.now.reads) }
-        ensures { IfOk result (λ writes. writes.items ≡ writes_of self.now.items self.now.reads) }
+        ensures writes { IfOk result (λ writes. writes.items ≡ writes_of self.now.items self.now.reads) }
+        ensures distinct { IfOk result (λ writes. are_distinct (write_keys writes.items) ≡ true) }
+        ensures few { IfOk result (λ writes. vec_len writes ≤ 16) }
     {
         let mut buffer = Buffer::new(*self.items.allocator());
         for item in &self.items {

@@ -3,5 +3,7 @@
 
 mod attempt;
 mod buffer;
+#[cfg(test)]
+mod tests;
 
 pub use attempt::ClientTxn;

@@ -2,10 +2,12 @@
 #![tactic(auto)]
 
 mod procs;
+mod standard;
 #[cfg(test)]
 mod tests;
 
 pub use procs::{Proc, Procedure, Procs};
+pub use standard::{add, max, sum};
 
 /// What a computed write does with the values that its attempt read.
 #[derive(Clone, Copy, Debug, PartialEq, Eq)]

@@ -1,36 +1,4 @@
-ghost use Rattle.std.specs.Prelude.{◌≡◌};
-ghost use Rattle.mk_proc.specs.Procedures.{proc_value};
-ghost use Rattle.mk_proc.specs.declared.ProcKind.TheVariants.{Add, Sum, Max};
-
 use super::*;
-
-fn add(values: &[u64], arg: u64) -> u64
-    ensures { result ≡ proc_value Add values.now arg }
-{
-    values
-        .first()
-        .map_or(arg, |first| first.saturating_add(arg))
-}
-
-fn sum(values: &[u64], arg: u64) -> u64
-    ensures { result ≡ proc_value Sum values.now arg }
-{
-    let mut total = arg;
-    for value in values {
-        total = total.saturating_add(*value);
-    }
-    total
-}
-
-fn max(values: &[u64], arg: u64) -> u64
-    ensures { result ≡ proc_value Max values.now arg }
-{
-    let mut greatest = arg;
-    for value in values {
-        greatest = greatest.max(*value);
-    }
-    greatest
-}
 
 #[test]
 fn a_procedure_of_each_kind_answers_its_value(rt: HostRuntime) {

@@ -1,11 +1,11 @@
 -- The entries of a map from stamps to transactions, as transactions in order.
-use Rattle.std.proofs.Common.{◌≡◌, Bool, true, false, refl, sym, ap, subst, ◌∙◌, inl, inr, ℕ, ◌<◌, ◌+◌, List, [], ◌∷◌, map, length, get_or, drop, add-one, if◌then◌else◌, Bor, Ordering, Less, Equal, Greater}
+use Rattle.std.proofs.Common.{◌≡◌, true, false, refl, sym, ap, subst, ◌∙◌, inl, inr, ℕ, ◌<◌, ◌+◌, List, [], ◌∷◌, map, length, get_or, drop, add-one, if◌then◌else◌, Bor, Ordering, Less, Equal, Greater}
 use Rattle.std.proofs.Math.Seq.{drop-cons}
 use Rattle.std.specs.Ordering.{is_lt, is_eq, match_ordering}
 use Rattle.std.specs.BTreeMap.{insert_entry}
 use Rattle.mk_lists.specs.Among.{Among, Each}
 use Rattle.mk_txn.specs.declared.Stamp.{Stamp}
-use Rattle.mk_txn.specs.Stamps.{is_before, same_stamp, stamp_cmp}
+use Rattle.mk_txn.specs.Stamps.{is_before, stamp_cmp}
 use Rattle.mk_txn.specs.Transactions.{Transaction}
 use Rattle.mk_txn.proofs.StampOrder.{stamp_cmp-less, stamp_cmp-equal, same_stamp-tells}
 use Rattle.mk_replay.specs.OneCopy.{put_in_order, all_in_order, stamps_of, HaveDistinctStamps}

@@ -1,9 +1,7 @@
 -- The copy before a transaction is that of the commits below its stamp, and no read is unexplained exactly where all are explained.
-use Rattle.std.proofs.Common.{◌≡◌, ◌⊎◌, ℕ, Bool, true, false, refl, sym, ap, subst, ◌∙◌, inl, inr, arith, List, [], ◌∷◌, ◌++◌, ◌&&◌, not, Option, Some, None, find, filter, append_assoc, if◌then◌else◌, IsNone, ◌↔◌}
+use Rattle.std.proofs.Common.{◌≡◌, ◌⊎◌, ℕ, Bool, true, false, refl, sym, ap, subst, ◌∙◌, inl, inr, List, [], ◌∷◌, ◌++◌, ◌&&◌, not, Option, Some, None, find, filter, append_assoc, if◌then◌else◌, IsNone, ◌↔◌}
 use Rattle.std.specs.Option.{option_map}
-use Rattle.std.proofs.lemmas.Bool.Decides.{nat_tests}
 use Rattle.mk_lists.specs.Among.{Among}
-use Rattle.mk_txn.specs.declared.Stamp.{Stamp}
 use Rattle.mk_txn.specs.declared.TxnId.{TxnId}
 use Rattle.mk_txn.specs.declared.ReadItem.{ReadItem}
 use Rattle.mk_txn.specs.Stamps.{is_before, same_stamp}
@@ -11,7 +9,7 @@ use Rattle.mk_txn.specs.Transactions.{Transaction, same_value}
 use Rattle.mk_txn.proofs.StampOrder.{same_stamp-tells, same_stamp-itself}
 use Rattle.mk_txn.proofs.ValueFacts.{same_value-tells, same_value-itself}
 use Rattle.mk_replay.specs.declared.reads.Unexplained.{Unexplained}
-use Rattle.mk_replay.specs.OneCopy.{Copy, version_in, with_writes, replayed, one_copy, in_stamp_order, all_in_order, HaveDistinctStamps}
+use Rattle.mk_replay.specs.OneCopy.{Copy, version_in, with_writes, replayed, one_copy, in_stamp_order, HaveDistinctStamps}
 use Rattle.mk_replay.specs.Explained.{commits_below, IsExplained, holds_read, first_unlike, unexplained_at, first_unexplained, unexplained_read}
 use Rattle.mk_replay.proofs.Sorting.{IsInOrder, IsInOrder-in_stamp_order, none_apart, filter-all, filter-before, Among-all, all-Among}
 

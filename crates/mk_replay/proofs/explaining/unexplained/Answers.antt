@@ -1,4 +1,4 @@
-use Rattle.std.proofs.Common.{◌≡◌, ◌∙◌, sym, ap, Some, None}
+use Rattle.std.proofs.Common.{◌∙◌, sym, ap, Some, None}
 use Rattle.mk_replay.specs.OneCopy.{with_writes}
 use Rattle.mk_replay.specs.Explained.{first_unlike, first_unexplained}
 use Rattle.mk_replay.proofs.Entries.{txns_in}

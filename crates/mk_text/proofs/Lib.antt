@@ -1,0 +1,7 @@
+pub mod Cuts
+pub mod Numbers
+pub mod FieldLaws
+pub mod Joins
+pub mod Names
+pub mod TextLaws
+pub mod PieceLaws

@@ -1,0 +1,3 @@
+pub mod StoreLaws
+pub mod ItemLaws
+pub mod OpeningLaws

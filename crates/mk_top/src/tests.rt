@@ -1,0 +1,146 @@
+ghost use Rattle.std.specs.Prelude.{◌<◌};
+
+use super::*;
+use mk_io::{MemSink, MemSource};
+use mk_proc::{Proc, ProcKind, Procs, add, max, sum};
+use std::alloc::Global;
+use std::test::Fail;
+
+fn first() -> &'static [u8] {
+    b"meerkat 1\nsize 1\nclient a 0 0\ntxn a 10 r:x w:x=5\n"
+}
+
+fn first_report() -> &'static [u8] {
+    b"a.1 @10.1 commit fast r:x@0.0=0 w:x=5\nstore x 10.1 5\nend 1 0 0\n"
+}
+
+/// A call with these words.
+fn call(alloc: Global, words: &[String], source: &mut MemSource, sink: &mut MemSink) -> Done {
+    let procs = Procs::new(
+        Proc::new(ProcKind::Add, add),
+        Proc::new(ProcKind::Sum, sum),
+        Proc::new(ProcKind::Max, max),
+    );
+    run_top(alloc, words, source, sink, &procs)
+}
+
+/// The word `run` over a script in memory, of which each call gives at most `piece` bytes and the call `failing`
+/// fails.
+fn run(
+    alloc: Global,
+    script: &[u8],
+    piece: u32,
+    failing: u32,
+    sink: &mut MemSink,
+) -> Result<Done, Fail>
+    requires { 0 < piece }
+{
+    let words = vec![in alloc; String::from_str(alloc, "run")?]?;
+    let mut source = MemSource::new(alloc, script, piece, &[failing])?;
+    Ok(call(alloc, words.as_slice(), &mut source, sink))
+}
+
+#[test]
+fn a_first_script_is_reported_in_any_pieces(rt: HostRuntime) -> Result<(), Fail> {
+    for piece in [1u32, 7, 8192] {
+        let mut sink = MemSink::new(rt.alloc(), piece.max(1), &[])?;
+        let done = run(rt.alloc(), first(), piece.max(1), 0, &mut sink)?;
+        assert_eq!(rt;
+            done,
+            Done {
+                status: 0,
+                why: None
+            }
+        );
+        assert_eq!(rt; sink.bytes(), first_report());
+    }
+    Ok(())
+}
+
+#[test]
+fn reports_of_other_first_scripts(rt: HostRuntime) -> Result<(), Fail> {
+    let cases: [(&[u8], &[u8]); 4] = [
+        (b"meerkat 1\nsize 1\n", b"end 0 0 0\n"),
+        (b"meerkat 1\nsize 1\nclient a 0 0\n", b"end 0 0 0\n"),
+        (
+            b"meerkat 1\nsize 1\nclient a 0 0\ntxn a 0 r:x\n",
+            b"a.1 @1.1 commit fast r:x@0.0=0\nend 1 0 0\n",
+        ),
+        (
+            b"meerkat 1\nsize 1\nclient b 0 0\ntxn b 7 w:y=1 r:y r:x r:x w:b=2 w:y=3\n",
+            b"b.1 @7.1 commit fast r:x@0.0=0 w:y=3 w:b=2\nstore b 7.1 2\nstore y 7.1 3\nend 1 0 0\n",
+        ),
+    ];
+    for (script, report) in cases {
+        let mut sink = MemSink::new(rt.alloc(), 100, &[])?;
+        let done = run(rt.alloc(), script, 100, 0, &mut sink)?;
+        assert_eq!(rt; done.status, 0);
+        assert_eq!(rt; sink.bytes(), report);
+    }
+    Ok(())
+}
+
+#[test]
+fn other_scripts_are_not_built(rt: HostRuntime) -> Result<(), Fail> {
+    let cases: [&[u8]; 9] = [
+        b"",
+        b"meerkat 2\nsize 1\n",
+        b"meerkat 1\nsize 2\n",
+        b"meerkat 1\nsize 1",
+        b"meerkat 1\nsize 1\n\n",
+        b"meerkat 1\nsize 1\nclient a 1 0\n",
+        b"meerkat 1\nsize 1\nclient a 0 0\ntxn b 1 r:x\n",
+        b"meerkat 1\nsize 1\nclient a 0 0\ntxn a 1 r:a r:b r:c r:d r:e r:f r:g r:h r:i r:j r:k r:l r:m r:n r:o r:p r:q\n",
+        b"meerkat 1\nsize 1\nclient a 0 0\ntxn a 1 w:x=18446744073709551616\n",
+    ];
+    for script in cases {
+        let mut sink = MemSink::new(rt.alloc(), 100, &[])?;
+        let done = run(rt.alloc(), script, 100, 0, &mut sink)?;
+        assert_eq!(rt; done.why, Some(Why::Unbuilt));
+        assert_eq!(rt; done.status, 2);
+        assert!(rt; sink.bytes().is_empty());
+    }
+    Ok(())
+}
+
+// The script of 49 bytes is read in eight calls of 7 bytes, of which the last finds the end.
+#[test]
+fn a_source_fault_writes_nothing(rt: HostRuntime) -> Result<(), Fail> {
+    for call in 1u32..10 {
+        let mut sink = MemSink::new(rt.alloc(), 100, &[])?;
+        let done = run(rt.alloc(), first(), 7, call, &mut sink)?;
+        assert_eq!(rt; done.status, if call < 9 { 3 } else { 0 });
+        assert_eq!(rt; sink.bytes().is_empty(), call < 9);
+    }
+    Ok(())
+}
+
+// The report of 63 bytes is written in thirteen calls of 5 bytes.
+#[test]
+fn a_sink_fault_leaves_a_prefix(rt: HostRuntime) -> Result<(), Fail> {
+    for call in 1u32..15 {
+        let mut sink = MemSink::new(rt.alloc(), 5, &[call])?;
+        let done = run(rt.alloc(), first(), 100, 0, &mut sink)?;
+        assert_eq!(rt; done.status, if call < 14 { 5 } else { 0 });
+        let count = (5 * (call as usize - 1)).min(63);
+        assert_eq!(rt; sink.bytes().len(), count);
+        assert!(rt; first_report().starts_with(sink.bytes()));
+    }
+    Ok(())
+}
+
+#[test]
+fn other_words_read_nothing(rt: HostRuntime) -> Result<(), Fail> {
+    let alloc = rt.alloc();
+    let run_word = String::from_str(alloc, "run")?;
+    let other = String::from_str(alloc, "x")?;
+    let two = vec![in alloc; run_word, other]?;
+    for count in [0, 2] {
+        let mut sink = MemSink::new(alloc, 100, &[])?;
+        let mut source = MemSource::new(alloc, first(), 100, &[1])?;
+        let done = call(alloc, &two[..count], &mut source, &mut sink);
+        assert_eq!(rt; done.status, 2);
+        assert!(rt; sink.bytes().is_empty());
+    }
+    Ok(())
+}
