@@ -13,7 +13,6 @@ use Rattle.mk_cell.specs.declared.JournalEntry.{JournalEntry}
 use Rattle.mk_column.specs.declared.KeyCall.{KeyCall}
 use Rattle.mk_column.specs.declared.Step.{Step}
 use Rattle.mk_column.specs.declared.Step.TheVariants.{Begin, Read as ReadStep, Stamp, Validate, Take, Key, Rule}
-use Rattle.mk_history.specs.declared.RoundLog.{RoundLog}
 use Rattle.mk_history.specs.declared.Path.TheVariants.{Fast}
 use Rattle.mk_history.specs.declared.State.TheVariants.{Learned}
 use Rattle.mk_history.specs.Histories.{History}
