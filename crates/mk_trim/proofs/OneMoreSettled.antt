@@ -8,6 +8,7 @@ use Rattle.mk_txn.specs.Transactions.{same_id, id_cmp}
 use Rattle.mk_txn.specs.MarkMaps.{MarkMap, IsMarkMap, mark_of, covers, raised}
 use Rattle.mk_txn.proofs.IdOrder.{id_cmp-equal, same_id-tells}
 use Rattle.mk_txn.proofs.MarkLaws.{mark_of-raised, mark_of-raised_other}
+use Rattle.mk_trim.specs.Runs.{follows, AllFollow}
 use Rattle.mk_trim.specs.SettledAttempts.{holds, is_settled, IsSettled}
 
 -- ---- sets of the library
@@ -56,14 +57,6 @@ IsSettled-above marks old new id e gap h =
             let far : mark_of marks client + 1 < id.seq = subst (λ n. mark_of marks n + 1 < id.seq) same gap in
             grind (arith, nat_tests, far)
         by_client false f = grind (arith, nat_tests, f)
-
--- whether the attempt follows another of its client, up to this number
-abbrev pub follows : TxnId → ℕ → TxnId → Bool
-follows id end other = other.client == id.client && nat_lt id.seq other.seq && nat_le other.seq end
-
--- all that follow, up to this number, are among these
-abbrev pub AllFollow : List TxnId → TxnId → ℕ → Type 0
-AllFollow ids id end = (seq : ℕ) → id.seq < seq → seq ≤ end → holds ids (record { client = id.client; seq = seq }) ≡ true
 
 -- one up to the end is settled before, or the one that is settled now
 settled_up_to : (marks : MarkMap) (old : List TxnId) (id other : TxnId) (end : ℕ) → mark_of marks id.client + 1 ≡ id.seq → AllFollow old id end → other.client ≡ id.client → other.seq ≤ end → ((covers marks other || holds old other) || same_id id other) ≡ true

@@ -26,3 +26,7 @@ pub record IsSettled (settled : SettledAttempts) : Type 0 where
 pub record IsMark (settled : SettledAttempts) (client mark : ℕ) : Type 0 where
   pub up_to : (seq : ℕ) → seq ≤ mark → is_settled settled (record { client = client; seq = seq }) ≡ true
   pub ends : mark + 1 < 2 ^ 32 → is_settled settled (record { client = client; seq = mark + 1 }) ≡ false
+
+-- the same attempts are settled, and this one
+abbrev pub AlsoSettles : SettledAttempts → SettledAttempts → TxnId → Type 0
+AlsoSettles old new id = (other : TxnId) → is_settled new other ≡ (is_settled old other || same_id id other)

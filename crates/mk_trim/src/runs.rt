@@ -1,6 +1,7 @@
 //! Runs of attempts of one client without a gap.
-ghost use Rattle.std.specs.Prelude.{◌≡◌, ◌<◌, ◌≤◌, ◌+◌, ◌^◌, ◌&&◌, ℕ, true, false, not, nat_lt, nat_le, ◌==◌};
+ghost use Rattle.std.specs.Prelude.{◌≡◌, ◌<◌, ◌≤◌, ◌+◌, ◌^◌, ◌&&◌, ◌==◌, false, not};
 ghost use Rattle.mk_trim.specs.SettledAttempts.{holds};
+ghost use Rattle.mk_trim.specs.Runs.{has_number, follows, AllFollow};
 ghost use Rattle.mk_txn.specs.declared.TxnId.{TxnId as Attempt};
 
 use mk_txn::TxnId;
@@ -9,8 +10,8 @@ use std::collections::BTreeSet;
 // The last of the attempts that follow this one without a gap.
 pub(crate) fn run_end(ids: &BTreeSet<TxnId>, id: TxnId) -> u32
     ensures from { id.seq ≤ result }
-    ensures run { (seq : ℕ) → id.seq < seq → seq ≤ result → holds ids.now.keys (record { client = id.client; seq = seq }) ≡ true }
-    ensures ends { result + 1 < 2 ^ 32 → holds ids.now.keys (record { client = id.client; seq = result + 1 }) ≡ false }
+    ensures run { AllFollow ids.now.keys id result }
+    ensures ends { result + 1 < 2 ^ 32 → has_number ids.now.keys id.client (result + 1) ≡ false }
 {
     let mut end = id.seq;
     while end < u32::MAX && has(ids, id.client, end + 1) {
@@ -20,7 +21,7 @@ pub(crate) fn run_end(ids: &BTreeSet<TxnId>, id: TxnId) -> u32
 }
 
 fn has(ids: &BTreeSet<TxnId>, client: u32, seq: u32) -> bool
-    ensures { result ≡ holds ids.now.keys (record { client = client; seq = seq }) }
+    ensures { result ≡ has_number ids.now.keys client seq }
 {
     ids.contains(&TxnId { client, seq })
 }
@@ -28,7 +29,7 @@ fn has(ids: &BTreeSet<TxnId>, client: u32, seq: u32) -> bool
 // Takes out the attempts that follow this one, up to `end`.
 pub(crate) fn drop_run(ids: &mut BTreeSet<TxnId>, id: TxnId, end: u32)
     requires { id.seq ≤ end }
-    ensures { (other : Attempt) → holds ids.new.keys other ≡ (holds ids.old.keys other && not (other.client == id.client && nat_lt id.seq other.seq && nat_le other.seq end)) }
+    ensures { (other : Attempt) → holds ids.new.keys other ≡ (holds ids.old.keys other && not (follows id end other)) }
 {
     let mut seq = id.seq;
     while seq < end {

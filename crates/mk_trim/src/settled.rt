@@ -1,7 +1,6 @@
 //! Attempts that need no more telling.
-ghost use Rattle.std.specs.Prelude.{◌≡◌, ◌==◌, ◌||◌, ◌↔◌, IsTrue, OnOk, OnErr};
+ghost use Rattle.std.specs.Prelude.{◌≡◌, ◌==◌, OnOk, OnErr};
 ghost use Rattle.mk_txn.specs.declared.TxnId.{TxnId as Attempt};
-ghost use Rattle.mk_txn.specs.Transactions.{same_id};
 
 use crate::runs::{drop_run, run_end};
 use mk_txn::{Marks, NoMemory, TxnId};
@@ -28,7 +27,7 @@ impl Model for Settled {
 }
 
 impl Settled {
-    ghost use Rattle.mk_trim.specs.SettledAttempts.{is_settled, IsMark};
+    ghost use Rattle.mk_trim.specs.SettledAttempts.{is_settled, IsMark, AlsoSettles};
 
     /// No attempt is settled.
     pub fn new(alloc: Global) -> Settled
@@ -42,7 +41,7 @@ impl Settled {
 
     /// The attempt is settled from then on.
     pub fn settle(&mut self, id: TxnId) -> Result<(), NoMemory>
-        ensures ok { OnOk result ((other : Attempt) → is_settled self.new other ≡ (is_settled self.old other || same_id id other)) }
+        ensures ok { OnOk result (AlsoSettles self.old self.new id) }
         ensures err { OnErr result (self.new ≡ self.old) }
     {
         let mark = self.marks.get(id.client);
