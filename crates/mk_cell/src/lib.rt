@@ -3,6 +3,18 @@
 
 use mk_txn::{Reason, Stamp, Value};
 
+mod cell;
+mod fitting;
+mod pending;
+mod places;
+mod steps;
+
+pub use cell::Cell;
+pub use fitting::answers;
+pub use pending::Pending;
+pub use places::{Places, first_above};
+pub use steps::Steps;
+
 /// What a key step asks of a cell.
 #[derive(Clone, Copy, Debug, PartialEq, Eq)]
 pub enum Act {
