@@ -1,7 +1,7 @@
 //! The pending stamps of a cell.
 ghost use Rattle.std.specs.Prelude.{◌≡◌, ℕ, ◌+◌, ◌<◌, ◌≤◌, [], length, OnOk, IfOk, IfErr, insert, remove};
-ghost use Rattle.mk_cell.specs.Pending.{joined, without, least_below as least_before, least_above as least_after, IsAscending};
-ghost use Rattle.mk_cell.specs.Searching.{place_above, HasDigits};
+ghost use Rattle.mk_cell.specs.Pending.{joined, without, least_below as least_before, least_above as least_after};
+ghost use Rattle.mk_cell.specs.Searching.{HasDigits};
 
 use crate::{Places, Steps, first_above};
 use mk_txn::{NoMemory, Stamp, precedes, same_stamp};
@@ -93,9 +93,9 @@ impl Pending {
     fn find<L: Ledger>(&self, stamp: Stamp, steps: &mut Steps<L>) -> Result<usize, usize>
         ensures here { IfOk result (λ place. (place < length self.now.stamps) × (joined stamp self.now.stamps ≡ self.now.stamps) × (without stamp self.now.stamps ≡ remove self.now.stamps place)) }
         ensures nowhere { IfErr result (λ place. (place ≤ length self.now.stamps) × (joined stamp self.now.stamps ≡ insert self.now.stamps place stamp) × (without stamp self.now.stamps ≡ self.now.stamps)) }
-        ensures ascending { IsAscending self.now.stamps }
         ensures cost { (digits : ℕ) → HasDigits (length self.now.stamps) digits → steps.new ≤ steps.old + digits + 1 }
     {
+        let _ = &self.stamps;
         let place = first_above(self, stamp, steps);
         if place == 0 {
             return Err(place);
