@@ -1,9 +1,9 @@
 -- Where the search for a stamp ends, and what stands there.
-use Rattle.std.proofs.Common.{◌≡◌, ℕ, zero, suc, ◌+◌, ◌<◌, ◌≤◌, Bool, true, false, refl, subst, arith, List, [], ◌∷◌, length, take, drop, Some, None}
+use Rattle.std.proofs.Common.{◌≡◌, ℕ, zero, suc, ◌<◌, ◌≤◌, Bool, true, false, refl, subst, arith, List, [], ◌∷◌, length, Some, None}
 use Rattle.std.specs.Prelude.{slice_get, insert, remove}
 use Rattle.mk_txn.specs.declared.Stamp.{Stamp}
 use Rattle.mk_txn.specs.Stamps.{is_before, same_stamp}
-use Rattle.mk_txn.proofs.StampOrder.{same_stamp-tells, same_stamp-itself, is_before-itself, is_before-through, is_before-not_back}
+use Rattle.mk_txn.proofs.StampOrder.{same_stamp-tells, is_before-itself, is_before-through, is_before-not_back}
 use Rattle.mk_lists.specs.Among.{Each}
 use Rattle.mk_cell.specs.Pending.{joined, without, has_stamp, IsAscending, least_below, least_above}
 use Rattle.mk_cell.specs.Searching.{place_above}

@@ -8,6 +8,8 @@ mod fitting;
 mod pending;
 mod places;
 mod steps;
+#[cfg(test)]
+mod tests;
 
 pub use cell::Cell;
 pub use fitting::answers;
