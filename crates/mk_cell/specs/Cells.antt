@@ -1,5 +1,5 @@
 -- The cell of a key at a replica. Doing an act is `cell_answer`, what it answers, with `cell_after`, what it leaves.
-use Rattle.std.specs.Prelude.{List, [], Option, Some, None, if◌then◌else◌}
+use Rattle.std.specs.Prelude.{ℕ, List, [], Option, Some, None, if◌then◌else◌}
 use Rattle.mk_txn.specs.declared.Stamp.{Stamp}
 use Rattle.mk_txn.specs.declared.Reason.{Reason}
 use Rattle.mk_txn.specs.declared.Reason.TheVariants.{ReadStale, ReadPending, WriteLate, WritePending}
@@ -19,6 +19,11 @@ pub record CellState : Type 0 where
   pub rts : Stamp
   pub readers : List Stamp
   pub writers : List Stamp
+
+-- what contracts see of a cell that is kept: its state, and for how many more checks it has room
+pub record CellView : Type 0 where
+  pub state : CellState
+  pub spare : ℕ
 
 -- a cell with nothing pending
 abbrev pub settled_cell : Value → Stamp → Stamp → CellState

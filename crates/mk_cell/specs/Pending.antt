@@ -1,5 +1,5 @@
 -- Lists of pending stamps, ascending and distinct.
-use Rattle.std.specs.Prelude.{◌≡◌, Bool, true, not, List, [], ◌∷◌, Option, filter, find, if◌then◌else◌}
+use Rattle.std.specs.Prelude.{◌≡◌, ℕ, Bool, true, not, List, [], ◌∷◌, Option, filter, find, if◌then◌else◌}
 use Rattle.std.specs.List.{list_any}
 use Rattle.mk_txn.specs.declared.Stamp.{Stamp}
 use Rattle.mk_txn.specs.Stamps.{is_before, same_stamp}
@@ -33,3 +33,8 @@ least_below stamp stamps = find (λ other. is_before other stamp) stamps
 -- the least member that is after this stamp
 abbrev pub least_above : Stamp → List Stamp → Option Stamp
 least_above stamp stamps = find (λ other. is_before stamp other) stamps
+
+-- what contracts see of a list that is kept: its stamps, and for how many more it has room
+pub record PendingView : Type 0 where
+  pub stamps : List Stamp
+  pub spare : ℕ

@@ -3,6 +3,20 @@
 
 use mk_txn::{Reason, Stamp, Value};
 
+mod cell;
+mod fitting;
+mod pending;
+mod places;
+mod steps;
+#[cfg(test)]
+mod tests;
+
+pub use cell::Cell;
+pub use fitting::answers;
+pub use pending::Pending;
+pub use places::{Places, first_above};
+pub use steps::Steps;
+
 /// What a key step asks of a cell.
 #[derive(Clone, Copy, Debug, PartialEq, Eq)]
 pub enum Act {

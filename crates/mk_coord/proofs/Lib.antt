@@ -1,1 +1,4 @@
+pub mod SlotLists
+pub mod CoordChanges
+pub mod RulingCases
 mod RulingRows

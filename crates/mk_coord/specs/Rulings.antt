@@ -1,5 +1,5 @@
 -- What an attempt's own coordinator makes of the votes and accepts that it took.
-use Rattle.std.specs.Prelude.{ℕ, Bool, true, List, [], ◌∷◌, Option, Some, None, nat_le, nat_lt, not, if◌then◌else◌}
+use Rattle.std.specs.Prelude.{◌≡◌, ◌≤◌, ℕ, length, take, Bool, true, List, [], ◌∷◌, Option, Some, None, nat_le, nat_lt, not, if◌then◌else◌}
 use Rattle.std.specs.Option.{option_or}
 use Rattle.mk_txn.specs.declared.Cause.TheVariants.{Conflict as ByConflict, Takeover as ByTakeover}
 use Rattle.mk_txn.specs.declared.Vote.{Vote}
@@ -18,6 +18,24 @@ pub record CoordState : Type 0 where
   pub accepts : List (Option Bool)
   pub proposed : Option Outcome
   pub learned : Option Outcome
+
+-- a coordinator among the replicas for this many faults
+pub record SizedCoord : Type 0 where
+  pub faults : ℕ
+  pub state : CoordState
+
+-- what is seen of seven slots of each kind: those of the replicas that there are
+abbrev pub seen_coord : ℕ → List (Option Vote) → List (Option Bool) → Option Outcome → Option Outcome → SizedCoord
+seen_coord f votes accepts proposed learned =
+    record {
+      faults = f;
+      state =
+          record { votes = take (members f) votes; accepts = take (members f) accepts; proposed = proposed; learned = learned };
+    }
+
+-- seven slots of each kind are enough for the replicas
+abbrev pub HasSlots : {X : Type 0} → ℕ → List (Option X) → List (Option Bool) → Type 0
+HasSlots f slots accepts = (f ≤ 3) × (length slots ≡ 7) × (length accepts ≡ 7)
 
 -- a coordinator that has taken nothing
 abbrev pub new_coord : ℕ → CoordState

@@ -3,6 +3,15 @@
 
 use mk_txn::Outcome;
 
+mod coord;
+mod counting;
+mod slots;
+#[cfg(test)]
+mod tests;
+
+pub use coord::Coord;
+pub use slots::{count_accepts, fill};
+
 /// What the votes and accepts that were taken so far give.
 #[derive(Clone, Copy, Debug, PartialEq, Eq)]
 pub enum Ruling {

@@ -1,1 +1,14 @@
 mod OneRun
+mod RunTrials
+mod CoveredNotCounted
+mod ForgottenTeachesNothing
+mod FailingWord
+mod SupersededEpochTeaches
+mod MovedTeachesTakeover
+mod TaughtCoordinator
+mod AbortKeepsFirstCause
+mod AbsentValues
+mod LateVotes
+mod NobodyServes
+mod UnclearTakeover
+mod WipedAndReadmitted

@@ -2,6 +2,7 @@
 use Rattle.std.specs.Prelude.{◌≡◌, ◌⊎◌, ℕ, ◌+◌, ◌^◌, ◌≤◌, Bool, true, false, ◌&&◌, ◌==◌, nat_lt, nat_le, max, List, [], ◌∷◌, length, map, sum, count_by}
 use Rattle.std.specs.List.{list_all}
 use Rattle.mk_lists.specs.Among.{Each, AllDistinct}
+use Rattle.mk_text.specs.Words.{is_name}
 use Rattle.mk_txn.specs.declared.Stamp.{Stamp}
 use Rattle.mk_txn.specs.declared.TxnId.{TxnId}
 use Rattle.mk_txn.specs.declared.Value.{Value}
@@ -131,6 +132,8 @@ pub record HasShape (run : History) : Type 0 where
   pub clients : length run.client_names ≡ length run.client_columns
   pub few_clients : length run.client_names ≤ 64
   pub few_keys : length run.key_names ≤ 256
+  pub named_clients : Each (λ name. is_name name ≡ true) run.client_names
+  pub named_keys : Each (λ name. is_name name ≡ true) run.key_names
   pub distinct_clients : AllDistinct run.client_names
   pub distinct_keys : AllDistinct run.key_names
   pub some_round : 1 ≤ length run.rounds

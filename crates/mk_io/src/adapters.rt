@@ -1,5 +1,5 @@
 //! The reader and the writer of the standard library as a source and a sink.
-ghost use Rattle.std.specs.Prelude.{◌≡◌, ◌≤◌, ◌<◌, length, IfOk, OnErr};
+ghost use Rattle.std.specs.Prelude.{◌≡◌};
 
 use crate::{Failed, Sink, Source};
 use std::io::{Read, Write};
@@ -12,6 +12,7 @@ pub struct StdSource<R> {
 }
 
 impl<R: Read> StdSource<R> {
+    /// A source over this reader, with no fault so far.
     pub fn new(reader: R) -> StdSource<R>
         ensures told { ⟦<StdSource<R> as Source>⟧.left result ≡ R.remaining reader }
         ensures no_fault { ⟦<StdSource<R> as Source>⟧.faults result ≡ 0 }
@@ -45,6 +46,7 @@ pub struct StdSink<W> {
 }
 
 impl<W: Write> StdSink<W> {
+    /// A sink over this writer, with no fault so far.
     pub fn new(writer: W) -> StdSink<W>
         ensures told { ⟦<StdSink<W> as Sink>⟧.held result ≡ W.contents writer }
         ensures no_fault { ⟦<StdSink<W> as Sink>⟧.faults result ≡ 0 }

@@ -1,5 +1,5 @@
 //! A source, a sink and a word in memory, of which listed calls fail.
-ghost use Rattle.std.specs.Prelude.{◌≡◌, ◌+◌, ◌<◌, ◌≤◌, [], Some, ◌++◌, length, take, drop, is_ok, is_err, if◌then◌else◌, IfOk, OnOk, OnErr};
+ghost use Rattle.std.specs.Prelude.{◌≡◌, ◌<◌, ◌≤◌, [], Some, ◌++◌, length, take, drop, is_ok, is_err, if◌then◌else◌, IfOk, OnOk, OnErr};
 ghost use Rattle.std.specs.Io.KnownBytes.{ReadConsumes, WriteAppends};
 ghost use Rattle.mk_io.specs.Faults.{HasRisen};
 ghost use Rattle.mk_io.specs.Calls.{no_calls, is_next_listed};
@@ -52,8 +52,6 @@ impl MemSource {
 }
 
 impl Source for MemSource {
-    ghost use Rattle.mk_io.specs.Memory.{SourceState};
-
     ghost faults = { λ s. s.calls.faults };
 
     ghost left = { λ s. Some s.left };
@@ -135,8 +133,6 @@ impl MemSink {
 }
 
 impl Sink for MemSink {
-    ghost use Rattle.mk_io.specs.Memory.{SinkState};
-
     ghost faults = { λ s. s.calls.faults };
 
     ghost held = { λ s. Some s.held };
@@ -195,8 +191,6 @@ impl MemWord {
 }
 
 impl EpochWord for MemWord {
-    ghost use Rattle.mk_io.specs.Memory.{WordState};
-
     ghost faults = { λ w. w.calls.faults };
 
     ghost kept = { λ w. w.kept };

@@ -1,6 +1,6 @@
 //! A source, a sink and a word of which no call fails.
-ghost use Rattle.std.specs.Prelude.{◌≡◌, ◌≤◌, ◌<◌, Some, None, Ok, ◌++◌, length, take, drop, min, is_ok, if◌then◌else◌, IsOk, IfOk, OnErr};
-ghost use Rattle.std.specs.Io.KnownBytes.{ReadConsumes, WriteAppends};
+ghost use Rattle.std.specs.Prelude.{◌≡◌, ◌≤◌, Some, Ok, ◌++◌, length, take, drop, min, IsOk, IfOk, OnErr};
+ghost use Rattle.std.specs.Io.KnownBytes.{ReadConsumes};
 ghost use Rattle.mk_io.specs.Faults.{HasRisen};
 
 use crate::memory::copy_front;
@@ -22,6 +22,7 @@ impl<'a> Model for SureSource<'a> {
 }
 
 impl<'a> SureSource<'a> {
+    /// A source of these bytes.
     pub fn new(bytes: &'a [u8]) -> SureSource<'a>
         ensures { result ≡ bytes.now }
     {
@@ -56,6 +57,7 @@ impl Source for SureSource<'_> {
 pub struct SureSink;
 
 impl SureSink {
+    /// A sink that takes all.
     pub fn new() -> SureSink {
         SureSink
     }

@@ -1,2 +1,4 @@
 -- Messages, and the list of those that were sent.
+pub mod Indexes
 pub mod Links
+pub mod Sendings

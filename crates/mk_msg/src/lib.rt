@@ -1,6 +1,13 @@
 //! The messages that a column's coordinators and replicas send each other.
 #![tactic(auto)]
 
+ghost use Rattle.std.specs.Prelude.{◌≡◌};
+
+mod link;
+#[cfg(test)]
+mod tests;
+
+pub use link::Link;
 use mk_txn::{Accepted, Known, Outcome, TxnId, Vote};
 
 /// The kind of a message.
@@ -56,4 +63,24 @@ pub struct Msg {
     pub replica: u32,
     pub view: u32,
     pub body: Body,
+}
+
+impl Body {
+    ghost use Rattle.mk_msg.specs.Links.{kind_of};
+
+    /// The kind of what is said.
+    pub fn kind(&self) -> MsgKind
+        ensures { result ≡ kind_of self.now }
+    {
+        match self {
+            Body::Validate { .. } => MsgKind::Validate,
+            Body::Voted(_) => MsgKind::Vote,
+            Body::Accept(_) => MsgKind::Accept,
+            Body::Accepted => MsgKind::Accepted,
+            Body::Decide(_) => MsgKind::Decide,
+            Body::Ask => MsgKind::Ask,
+            Body::Told(_) => MsgKind::Told,
+            Body::Moved(_) => MsgKind::Moved,
+        }
+    }
 }

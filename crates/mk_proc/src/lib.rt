@@ -50,6 +50,7 @@ impl Item {
         }
     }
 
+    /// Whether it reads.
     pub fn is_read(&self) -> bool
         ensures { result ≡ is_read self.now }
     {

@@ -18,6 +18,7 @@ pub struct Proc {
 }
 
 impl Proc {
+    /// Keeps a procedure that computes the values of this kind.
     pub fn new(kind: ProcKind, procedure: Procedure) -> Proc
         requires callable { CanCompute (pre procedure) }
         requires computes { Computes kind (post procedure) }
@@ -26,6 +27,7 @@ impl Proc {
         Proc { kind, procedure }
     }
 
+    /// The value of its kind on these values, at most 16.
     pub fn call(&self, values: &[u64], arg: u64) -> u64
         requires { length values.now ≤ 16 }
         ensures { result ≡ proc_value self.now.kind values.now arg }
@@ -46,6 +48,7 @@ pub struct Procs {
 }
 
 impl Procs {
+    /// One procedure of each kind, in this order.
     pub fn new(add: Proc, sum: Proc, max: Proc) -> Procs
         requires add { add.kind ≡ Add }
         requires sum { sum.kind ≡ Sum }
@@ -54,6 +57,7 @@ impl Procs {
         Procs { add, sum, max }
     }
 
+    /// The value of this kind on these values, at most 16.
     pub fn call(&self, kind: ProcKind, values: &[u64], arg: u64) -> u64
         requires { length values.now ≤ 16 }
         ensures { result ≡ proc_value kind values.now arg }

@@ -1,1 +1,3 @@
+pub mod PickChanges
+pub mod PickCases
 mod PickRows

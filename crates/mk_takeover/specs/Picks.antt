@@ -1,5 +1,5 @@
 -- What a takeover makes of what the replicas told it.
-use Rattle.std.specs.Prelude.{ℕ, Bool, true, List, map, Option, Some, None, nat_le, nat_lt, not, ◌&&◌, is_none, if◌then◌else◌}
+use Rattle.std.specs.Prelude.{ℕ, Bool, true, List, map, take, Option, Some, None, nat_le, nat_lt, not, ◌&&◌, is_none, if◌then◌else◌}
 use Rattle.std.specs.Option.{option_or}
 use Rattle.mk_txn.specs.declared.Cause.TheVariants.{Takeover as ByTakeover}
 use Rattle.mk_txn.specs.declared.Accepted.{Accepted}
@@ -20,6 +20,16 @@ pub record TakeoverState : Type 0 where
   pub accepts : List (Option Bool)
   pub proposed : Option Outcome
   pub learned : Option Outcome
+
+-- a takeover among the replicas for this many faults
+pub record SizedTakeover : Type 0 where
+  pub faults : ℕ
+  pub state : TakeoverState
+
+-- what is seen of seven slots of each kind: those of the replicas that there are
+abbrev pub seen_takeover : ℕ → ℕ → List (Option Told) → List (Option Bool) → Option Outcome → Option Outcome → SizedTakeover
+seen_takeover f view told accepts proposed learned =
+    record { faults = f; state = record { view = view; told = take (members f) told; accepts = take (members f) accepts; proposed = proposed; learned = learned } }
 
 -- a takeover that has taken nothing
 abbrev pub new_takeover : ℕ → ℕ → TakeoverState

@@ -3,6 +3,13 @@
 
 use mk_txn::Outcome;
 
+mod promising;
+mod takeover;
+#[cfg(test)]
+mod tests;
+
+pub use takeover::Takeover;
+
 /// What the replies and accepts that were taken so far give.
 #[derive(Clone, Copy, Debug, PartialEq, Eq)]
 pub enum Pick {

@@ -103,28 +103,32 @@ fn other_scripts_are_not_built(rt: HostRuntime) -> Result<(), Fail> {
     Ok(())
 }
 
-// The script of 49 bytes is read in eight calls of 7 bytes, of which the last finds the end.
+// The script of 49 bytes is read in this many calls of so many bytes, of which the last finds the end.
 #[test]
 fn a_source_fault_writes_nothing(rt: HostRuntime) -> Result<(), Fail> {
-    for call in 1u32..10 {
-        let mut sink = MemSink::new(rt.alloc(), 100, &[])?;
-        let done = run(rt.alloc(), first(), 7, call, &mut sink)?;
-        assert_eq!(rt; done.status, if call < 9 { 3 } else { 0 });
-        assert_eq!(rt; sink.bytes().is_empty(), call < 9);
+    for (piece, calls) in [(1u32, 50u32), (7, 8)] {
+        for call in 1u32..52 {
+            let mut sink = MemSink::new(rt.alloc(), 100, &[])?;
+            let done = run(rt.alloc(), first(), piece.max(1), call, &mut sink)?;
+            assert_eq!(rt; done.status, if call <= calls { 3 } else { 0 });
+            assert_eq!(rt; sink.bytes().is_empty(), call <= calls);
+        }
     }
     Ok(())
 }
 
-// The report of 63 bytes is written in thirteen calls of 5 bytes.
+// The report of 63 bytes is written in this many calls of so many bytes.
 #[test]
 fn a_sink_fault_leaves_a_prefix(rt: HostRuntime) -> Result<(), Fail> {
-    for call in 1u32..15 {
-        let mut sink = MemSink::new(rt.alloc(), 5, &[call])?;
-        let done = run(rt.alloc(), first(), 100, 0, &mut sink)?;
-        assert_eq!(rt; done.status, if call < 14 { 5 } else { 0 });
-        let count = (5 * (call as usize - 1)).min(63);
-        assert_eq!(rt; sink.bytes().len(), count);
-        assert!(rt; first_report().starts_with(sink.bytes()));
+    for (piece, calls) in [(1u32, 63u32), (5, 13), (7, 9)] {
+        for call in 1u32..65 {
+            let mut sink = MemSink::new(rt.alloc(), piece.max(1), &[call])?;
+            let done = run(rt.alloc(), first(), 100, 0, &mut sink)?;
+            assert_eq!(rt; done.status, if call <= calls { 5 } else { 0 });
+            let written = (u64::from(piece) * u64::from(call - 1)).min(63);
+            assert_eq!(rt; sink.bytes().len() as u64, written);
+            assert!(rt; first_report().starts_with(sink.bytes()));
+        }
     }
     Ok(())
 }

@@ -1,1 +1,2 @@
+pub mod ProgressLaws
 mod ValidationRows

@@ -1,0 +1,15 @@
+use Rattle.std.proofs.Common.{◌≡◌, ap, arith, subst}
+use Rattle.mk_takeover.specs.Picks.{seen_takeover, accept_counted}
+use Rattle.mk_takeover.proofs.PickChanges.{accepted}
+use Rattle.mk_takeover.proofs.takeover.Takeover.take_accepted.Goals as goal
+
+pub fill-requires : goal.fill-requires
+fill-requires c =
+    let same : c.self.inside.size ≡ c.args.self.now.faults = ap (λ v. v.faults) c.self.view_is in
+    omega (arith, same, c.requires, c.self.invariant)
+
+pub returns : goal.returns
+returns c =
+    let same : c.self.inside.size ≡ c.args.self.now.faults = ap (λ v. v.faults) c.self.view_is in
+    subst (λ v. seen_takeover c.self.inside.size c.self.inside.view c.self.inside.told c.fill.new.slots c.self.inside.proposed c.self.inside.learned ≡ record v { state = accept_counted c.args.replica v.state }) c.self.view_is
+    (accepted c.self.inside.size c.self.inside.view c.self.inside.told c.self.inside.accepts c.fill.new.slots c.self.inside.proposed c.self.inside.learned c.args.replica (omega (arith, same, c.requires)) c.fill.ensures)
