@@ -1,4 +1,1 @@
-pub mod EpochOrder
-pub mod Majorities
-pub mod OnePromise
 mod EpochRows

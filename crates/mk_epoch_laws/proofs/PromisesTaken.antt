@@ -1,19 +1,17 @@
--- A majority that adopted an epoch has a member among the promises that make a later base.
-use Rattle.std.proofs.Common.{◌≡◌, ◌<◌, ◌≤◌, ℕ, zero, suc, ◌+◌, Bool, true, false, refl, arith, inl, inr, sym, ap, ◌∙◌, List, [], ◌∷◌, ◌++◌, subst, cond, not, ◌&&◌, ◌||◌, length, map, take}
-use Rattle.std.specs.Prelude.{nat_le, ◌==◌, filter}
+-- The promises of which a base is made: a majority's, of different replicas, the leader's among them; they stay when more are given.
+use Rattle.std.proofs.Common.{◌≡◌, ◌⊎◌, ◌<◌, ◌≤◌, ℕ, zero, suc, ◌+◌, Bool, true, false, refl, arith, inl, inr, sym, ap, ◌∙◌, List, [], ◌∷◌, ◌++◌, subst, cond, not, ◌&&◌, ◌||◌, length, map, take}
+use Rattle.std.specs.Prelude.{nat_le, max, ◌==◌, filter}
 use Rattle.std.specs.List.{list_any}
 use Rattle.std.proofs.lemmas.Bool.Decides.{nat_tests}
 use Rattle.std.proofs.lemmas.List.Filters.{length-filter_both}
-use Rattle.std.proofs.lemmas.List.{length-take-le, length-append, map-append, length-map}
+use Rattle.std.proofs.lemmas.List.{length-take-le, length-append, map-append}
 use Rattle.mk_lists.specs.Among.{Among, AllDistinct, Each, Among-append}
 use Rattle.mk_txn.proofs.ClashFacts.{member-from_list_any}
 use Rattle.mk_quorum.specs.Counts.{count_below}
-use Rattle.mk_quorum.specs.Sizes.{members, majority_of}
-use Rattle.mk_quorum.proofs.Meeting.{majorities_meet}
+use Rattle.mk_quorum.specs.Sizes.{majority_of}
 use Rattle.mk_merge.specs.Promises.{PromiseState}
 use Rattle.mk_merge.specs.Promises.{chosen, highest_adopted, leader_of, can_merge}
-use Rattle.mk_epoch.specs.EpochState.{EpochState, GivenPromise, Adoption, promises_for, ever_adopted, adopters}
-use Rattle.mk_epoch.proofs.EpochOrder.{EpochOrder}
+use Rattle.mk_epoch_laws.proofs.ListLaws.{both_true, eqb-tells, filter-append, take-append, list_any-append}
 
 count_below-same : (n : ℕ) (p q : ℕ → Bool) → ((r : ℕ) → r < n → p r ≡ q r) → count_below n p ≡ count_below n q
 count_below-same zero p q h = refl
@@ -52,7 +50,7 @@ count_distinct n (x ∷ xs) d e =
     let again = count_distinct n xs d.1 e.1 in
     omega (arith, again, count_below-add n x (λ r. list_any (λ y. y == r) xs) e.0 (not_member x xs d.0))
 
-Among-filter : {X : Type 0} (p : X → Bool) (x : X) (xs : List X) → Among x (filter p xs) → Among x xs × (p x ≡ true)
+pub Among-filter : {X : Type 0} (p : X → Bool) (x : X) (xs : List X) → Among x (filter p xs) → Among x xs × (p x ≡ true)
 Among-filter p x [] a = absurd a
 Among-filter {X} p x (y ∷ ys) a = by (Among-filter p x ys) (p y) refl a
   where
@@ -95,7 +93,7 @@ distinct-take (suc n) [] d = tt
 distinct-take (suc n) (p ∷ ps) d = ((λ a. let k = of_replica p.replica (take n ps) a in d.0 (subst (λ (m : ℕ). Among m (replicas_of ps)) k.2 (in_replicas k.0 ps (Among-take n k.0 ps k.1)))), distinct-take n ps d.1)
 
 -- an adopted epoch that a promise of the list knows is at most the highest
-highest_above : (p : PromiseState) (ps : List PromiseState) → Among p ps → p.adopted ≤ highest_adopted ps
+pub highest_above : (p : PromiseState) (ps : List PromiseState) → Among p ps → p.adopted ≤ highest_adopted ps
 highest_above p [] a = absurd a
 highest_above p (q ∷ ps) (inl e) = let k : q.adopted ≡ p.adopted = ap (λ (x : PromiseState). x.adopted) e in omega (arith, k)
 highest_above p (q ∷ ps) (inr a) = omega (arith, highest_above p ps a)
@@ -112,9 +110,6 @@ same_replica-few r (p ∷ (q ∷ ps)) d h = absurd (d.0 (inl (h q (inr (inl refl
 
 leads : ℕ → ℕ → PromiseState → Bool
 leads f epoch p = p.replica == leader_of f epoch
-
-pub eqb-tells : (a b : ℕ) → (a == b) ≡ true → a ≡ b
-eqb-tells a b e = grind (arith, nat_tests)
 
 not_eqb-tells : (a b : ℕ) → not (a == b) ≡ true → a ≡ b → ⊥
 not_eqb-tells a b e k = grind (arith, nat_tests)
@@ -178,58 +173,64 @@ module _ (f epoch : ℕ) (ps : List PromiseState) (distinct : AllDistinct (repli
     | inr b ↦ (Among-filter (λ p. not (p.replica == leader_of f epoch)) p ps (Among-take f p (filter (λ p. not (p.replica == leader_of f epoch)) ps) b)).0
   ]
 
-each_below : (n : ℕ) (ps : List PromiseState) → ((p : PromiseState) → Among p ps → p.replica < n) → Each (λ r. r < n) (replicas_of ps)
+pub each_below : (n : ℕ) (ps : List PromiseState) → ((p : PromiseState) → Among p ps → p.replica < n) → Each (λ r. r < n) (replicas_of ps)
 each_below n [] h = tt
 each_below n (p ∷ ps) h = (h p (inl refl), each_below n ps (λ q a. h q (inr a)))
 
--- the adoption that a test found
-adoption_of : (e : ℕ) (state : EpochState) (r : ℕ) → ever_adopted e state r ≡ true → (a : Adoption) × Among a state.adoptions × (a.epoch ≡ e) × (a.replica ≡ r)
-adoption_of e state r is =
-    let m = member-from_list_any (λ a. a.epoch == e && a.replica == r) state.adoptions is in
-    let k = both (m.0.epoch == e) (m.0.replica == r) m.2 in
-    (m.0, m.1, eqb-tells m.0.epoch e k.0, eqb-tells m.0.replica r k.1)
-  where
-    both : (a b : Bool) → (a && b) ≡ true → (a ≡ true) × (b ≡ true)
-    both true b e = (refl, e)
-    both false b e = absurd (cc e)
 
--- a promise of the epoch was given
-pub given_of : (epoch : ℕ) (state : EpochState) (p : PromiseState) → Among p (promises_for epoch state) → (g : GivenPromise) × Among g state.promises × (g.epoch ≡ epoch) × (g.promise ≡ p)
-given_of epoch state p a = by state.promises a
-  where
-    by : (gs : List GivenPromise) → Among p (map (λ (g : GivenPromise). g.promise) (filter (λ g. g.epoch == epoch) gs)) → (g : GivenPromise) × Among g gs × (g.epoch ≡ epoch) × (g.promise ≡ p)
-    by [] a = absurd a
-    by (g ∷ gs) a = head (by gs) (g.epoch == epoch) refl a
-      where
-        head : (Among p (map (λ (x : GivenPromise). x.promise) (filter (λ x. x.epoch == epoch) gs)) → (x : GivenPromise) × Among x gs × (x.epoch ≡ epoch) × (x.promise ≡ p)) →
-            (b : Bool) → (g.epoch == epoch) ≡ b → Among p (map (λ (x : GivenPromise). x.promise) (cond b (g ∷ filter (λ x. x.epoch == epoch) gs) (filter (λ x. x.epoch == epoch) gs))) →
-            (x : GivenPromise) × Among x (g ∷ gs) × (x.epoch ≡ epoch) × (x.promise ≡ p)
-        head again true e (inl eq) = (g, inl refl, eqb-tells g.epoch epoch e, eq)
-        head again true e (inr rest) = let k = again rest in (k.0, inr k.1, k.2, k.3)
-        head again false e rest = let k = again rest in (k.0, inr k.1, k.2, k.3)
+-- Where a base can be made, its promises stay when more are given.
+module _ (f epoch : ℕ) (ps more : List PromiseState) (distinct : AllDistinct (replicas_of ps)) (may : can_merge f epoch ps ≡ true) where
+  pub chosen_stays : chosen f epoch (ps ++ more) ≡ chosen f epoch ps
+  unfolding led others
+  chosen_stays =
+      let first = take-append 1 (led f epoch ps distinct may) (filter (λ p. p.replica == leader_of f epoch) more) (one_led f epoch ps distinct may) in
+      let rest = take-append f (others f epoch ps distinct may) (filter (λ p. not (p.replica == leader_of f epoch)) more) (many_others f epoch ps distinct may) in
+      let a = ap (λ (xs : List PromiseState). take 1 xs ++ take f (filter (λ p. not (p.replica == leader_of f epoch)) (ps ++ more))) (filter-append (λ (p : PromiseState). p.replica == leader_of f epoch) ps more) in
+      let b = ap (λ (xs : List PromiseState). take 1 (filter (λ p. p.replica == leader_of f epoch) ps ++ filter (λ p. p.replica == leader_of f epoch) more) ++ take f xs)
+      (filter-append (λ (p : PromiseState). not (p.replica == leader_of f epoch)) ps more) in
+      a ∙ b
+      ∙ ap (λ (xs : List PromiseState). xs ++ take f (filter (λ p. not (p.replica == leader_of f epoch)) ps ++ filter (λ p. not (p.replica == leader_of f epoch)) more)) first
+      ∙ ap (λ (xs : List PromiseState). take 1 (filter (λ p. p.replica == leader_of f epoch) ps) ++ xs) rest
 
--- Where a majority ever adopted an epoch, each later base is made from promises that know of it.
-pub later_bases_know : (state : EpochState) → EpochOrder state → (e later : ℕ) → e < later →
-    AllDistinct (replicas_of (promises_for later state)) → ((p : PromiseState) → Among p (promises_for later state) → p.replica < members state.faults) →
-    majority_of state.faults ≤ adopters e state → can_merge state.faults later (promises_for later state) ≡ true →
-    e ≤ highest_adopted (chosen state.faults later (promises_for later state))
-later_bases_know state h e later lt distinct inside many may =
-    let f = state.faults in
-    let ps = promises_for later state in
-    let cs = chosen f later ps in
-    let counted = count_distinct (members f) (replicas_of cs) (chosen_distinct f later ps distinct may)
-    (each_below (members f) cs (λ p a. inside p (chosen_member f later ps distinct may p a))) in
-    let long = chosen_enough f later ps distinct may in
-    let same_long = length-map cs (λ (p : PromiseState). p.replica) in
-    let m = majorities_meet f (ever_adopted e state) (λ r. list_any (λ x. x == r) (replicas_of cs)) many (omega (arith, counted, long, same_long)) in
-    let x = member-from_list_any (λ y. y == m.0) (replicas_of cs) m.3 in
-    let p = of_replica x.0 cs x.1 in
-    let g = given_of later state p.0 (chosen_member f later ps distinct may p.0 p.1) in
-    let a = adoption_of e state m.0 m.2 in
-    let by_r : a.0.replica ≡ g.0.promise.replica = a.3 ∙ sym (eqb-tells x.0 m.0 x.2) ∙ sym p.2 ∙ ap (λ (y : PromiseState). y.replica) (sym g.3) in
-    let early : a.0.epoch < g.0.epoch = (let n = a.2 in let o = g.2 in omega (arith, n, o, lt)) in
-    let knows = h.known g.0 g.1 a.0 a.1 by_r early in
-    let adopted : g.0.promise.adopted ≡ p.0.adopted = ap (λ (y : PromiseState). y.adopted) g.3 in
-    let top = highest_above p.0 cs p.1 in
-    let epoch = a.2 in
-    omega (arith, knows, adopted, top, epoch)
+  pub could_stays : can_merge f epoch (ps ++ more) ≡ true
+  could_stays =
+      let k = both_true (nat_le (majority_of f) (length ps)) (list_any (λ p. p.replica == leader_of f epoch) ps) may in
+      let longer = length-append ps more in
+      let enough : nat_le (majority_of f) (length (ps ++ more)) ≡ true = grind (arith, nat_tests, k.0, longer) in
+      let leads = list_any-append (λ (p : PromiseState). p.replica == leader_of f epoch) ps more k.1 in
+      grind (arith, enough, leads)
+
+module _ (f epoch : ℕ) (ps : List PromiseState) (distinct : AllDistinct (replicas_of ps)) (may : can_merge f epoch ps ≡ true) where
+  pub chosen_majority : length (chosen f epoch ps) ≡ majority_of f
+  unfolding led others
+  chosen_majority =
+      let a = length-take-le 1 (led f epoch ps distinct may) (one_led f epoch ps distinct may) in
+      let b = length-take-le f (others f epoch ps distinct may) (many_others f epoch ps distinct may) in
+      let c = length-append (take 1 (led f epoch ps distinct may)) (take f (others f epoch ps distinct may)) in
+      omega (arith, a, b, c)
+
+  pub chosen_leader : Among (leader_of f epoch) (replicas_of (chosen f epoch ps))
+  unfolding led
+  chosen_leader = by (led f epoch ps distinct may) refl (one_led f epoch ps distinct may)
+    where
+      by : (ls : List PromiseState) → filter (λ p. p.replica == leader_of f epoch) ps ≡ ls → 1 ≤ length ls → Among (leader_of f epoch) (replicas_of (take 1 ls ++ take f (filter (λ p. not (p.replica == leader_of f epoch)) ps)))
+      by [] e one = absurd (omega (arith, one))
+      by (l ∷ ls) e one = inl (eqb-tells l.replica (leader_of f epoch) (Among-filter (λ p. p.replica == leader_of f epoch) l ps (subst (Among l) (sym e) (inl refl))).1)
+
+-- the highest adopted epoch is 0 or that of one of them
+pub highest_is : (ps : List PromiseState) → (highest_adopted ps ≡ 0) ⊎ ((p : PromiseState) × Among p ps × (p.adopted ≡ highest_adopted ps))
+highest_is [] = inl refl
+highest_is (p ∷ ps) = elim (highest_is ps) [
+  | inl none ↦ inr (p, inl refl, omega (arith, none))
+  | inr k ↦ elim (larger p.adopted (highest_adopted ps)) [
+    | inl here ↦ inr (p, inl refl, sym here)
+    | inr there ↦ inr (k.0, inr k.1, k.2 ∙ sym there)
+  ]
+]
+  where
+    larger : (a b : ℕ) → (max a b ≡ a) ⊎ (max a b ≡ b)
+    larger a b = grind arith
+
+-- the highest is below what all are below
+pub highest_below : (limit : ℕ) (ps : List PromiseState) → 0 < limit → ((p : PromiseState) → Among p ps → p.adopted < limit) → highest_adopted ps < limit
+highest_below limit ps up h = elim (highest_is ps) [ inl none ↦ omega (arith, none, up) | inr k ↦ let below = h k.0 k.1 in let same = k.2 in omega (arith, below, same) ]

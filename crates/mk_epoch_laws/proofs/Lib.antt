@@ -1,0 +1,12 @@
+mod ListLaws
+mod LineNews
+mod Extending
+mod EpochFacts
+mod ReplicasKept
+mod PromisesTaken
+mod FactsKept
+mod Turning
+mod Resetting
+mod Paths
+mod SourceKept
+mod Stated
