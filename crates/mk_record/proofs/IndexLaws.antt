@@ -186,3 +186,10 @@ pub place_changes : (id : TxnId) (entries : List Entry) (places : List (TxnId ×
 place_changes id entries places place f entry h at =
     let is = found_at id entries places place h at in
     sym (changed-at id entries place h.distinct (sym (h.placed id) ∙ at) f (get_or entries place entry) (slice_get-get_or entries place entry is.within))
+
+-- writing what an entry becomes at its place is changing it in the record
+pub written-changes : (id : TxnId) (f : Entry → Entry) (items entries : List Entry) (place : ℕ) (entry : Entry) → items ≡ entries → entry ≡ get_or items place entry
+    → ((g : Entry → Entry) (other : Entry) → change_entry id g entries ≡ slice_set entries place (g (get_or entries place other))) → slice_set items place (f entry) ≡ change_entry id f items
+written-changes id f items entries place entry same at changes =
+    ap (λ x. slice_set items place (f x)) at
+    ∙ subst (λ all. slice_set all place (f (get_or all place entry)) ≡ change_entry id f all) (sym same) (sym (changes f entry))

@@ -45,10 +45,8 @@ impl CoreRecord {
     pub fn find(&self, id: TxnId) -> Option<&Entry>
         ensures { option_copied result ≡ entry_of id self.now }
     {
-        match self.places.get(&id) {
-            Some(place) => self.entries.get(*place),
-            None => None,
-        }
+        let place = self.places.get(&id)?;
+        self.entries.get(*place)
     }
 
     /// All entries, in the order in which they were opened.
