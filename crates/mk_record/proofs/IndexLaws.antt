@@ -1,10 +1,12 @@
 -- What the index of a record tells of an entry, and what opening and changing entries does to it.
 use Rattle.std.proofs.Common.{◌≡◌, ℕ, zero, suc, ◌<◌, Bool, true, false, cond, refl, sym, ap, subst, ◌∙◌, ◌⊎◌, inl, inr, arith, List, [], ◌∷◌, ◌++◌, length, get_or, Option, Some, None}
-use Rattle.std.specs.Prelude.{find, map, slice_get, slice_set, option_map, IsSome}
+use Rattle.std.specs.Prelude.{find, map, slice_get, slice_set, option_map, option_copied}
+use Rattle.std.specs.Borrow.{Bor}
+use Rattle.std.specs.Slice.{IsItemAt}
 use Rattle.std.specs.Ordering.{is_eq}
 use Rattle.std.specs.BTreeMap.{is_at}
 use Rattle.std.proofs.lemmas.Bool.{false≢true}
-use Rattle.std.proofs.lemmas.Option.{none-some, same_Some, slice_get-get_or}
+use Rattle.std.proofs.lemmas.Option.{none-some, same_Some, slice_get-get_or, slice_get_past, slice_get_read}
 use Rattle.mk_lists.specs.Among.{Among, AllDistinct, Among-append}
 use Rattle.mk_txn.specs.declared.TxnId.{TxnId}
 use Rattle.mk_txn.specs.Transactions.{same_id, id_cmp}
@@ -163,6 +165,10 @@ IsIndexed-opened entries entry old new none puts h =
     subst (λ all. IsIndexed all new) (sym (ids-push entries entry)) (record { distinct = distinct-push ids id away h.distinct; placed = placed })
 
 -- ---- what the index finds
+
+pub got-at : (entries : List Entry) (place : ℕ) (got : Option (Bor Entry)) → IsItemAt entries place got → option_copied got ≡ slice_get entries place
+got-at entries place None h = sym (slice_get_past entries place h.3)
+got-at entries place (Some entry) h = sym (slice_get_read entries (length entries) place entry.now refl h.3.0 h.1)
 
 found_at : (id : TxnId) (entries : List Entry) (places : List (TxnId × ℕ)) (place : ℕ) → IsIndexed (ids_of entries) places → kept_place places id ≡ Some place → IsPlaceOf id entries place
 found_at id entries places place h at = place-is id entries place (sym (h.placed id) ∙ at)
