@@ -1,5 +1,4 @@
-use Rattle.std.proofs.Common.{◌≡◌, Some, None, sym, ap, ◌∙◌, refl}
-use Rattle.std.specs.Prelude.{slice_set}
+use Rattle.std.proofs.Common.{ap, ◌∙◌, refl}
 use Rattle.mk_record.specs.Entries.{change_entry, with_accepted}
 use Rattle.mk_record.proofs.IndexLaws.{written-changes, IsIndexed-changed}
 use Rattle.mk_record.proofs.record.CoreRecord.accept.Goals as goal
