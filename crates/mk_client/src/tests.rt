@@ -30,6 +30,14 @@ fn written(
     Ok(txn.writes(procs)?)
 }
 
+fn standard() -> Procs {
+    Procs::new(
+        Proc::new(ProcKind::Add, add),
+        Proc::new(ProcKind::Sum, sum),
+        Proc::new(ProcKind::Max, max),
+    )
+}
+
 const X: u32 = 0;
 
 const Y: u32 = 1;
@@ -45,11 +53,7 @@ fn is(key: u32, number: u64) -> WriteItem {
 
 #[test]
 fn each_attempt_computes_anew(rt: HostRuntime) -> Result<(), Fail> {
-    let procs = Procs::new(
-        Proc::new(ProcKind::Add, add),
-        Proc::new(ProcKind::Sum, sum),
-        Proc::new(ProcKind::Max, max),
-    );
+    let procs = standard();
     let items = [
         Item::Read(X),
         Item::Compute {
@@ -73,11 +77,7 @@ fn each_attempt_computes_anew(rt: HostRuntime) -> Result<(), Fail> {
 
 #[test]
 fn items_see_what_earlier_ones_wrote(rt: HostRuntime) -> Result<(), Fail> {
-    let procs = Procs::new(
-        Proc::new(ProcKind::Add, add),
-        Proc::new(ProcKind::Sum, sum),
-        Proc::new(ProcKind::Max, max),
-    );
+    let procs = standard();
     let items = [
         Item::Write { key: X, value: 5 },
         Item::Read(X),
@@ -102,5 +102,39 @@ fn items_see_what_earlier_ones_wrote(rt: HostRuntime) -> Result<(), Fail> {
         value: Value::Absent,
     };
     assert_eq!(rt; writes.as_slice(), [gone, is(Y, 26), is(Z, 10)].as_slice());
+    Ok(())
+}
+
+// Two accounts X and Y, and a count of hits Z.
+#[test]
+fn ordinary_use(rt: HostRuntime) -> Result<(), Fail> {
+    let procs = standard();
+    let opening = [
+        Item::Write { key: X, value: 100 },
+        Item::Write { key: Y, value: 50 },
+    ];
+    let deposit = [
+        Item::Read(X),
+        Item::Compute {
+            key: X,
+            proc: ProcKind::Add,
+            arg: 25,
+        },
+    ];
+    let hit = [
+        Item::Read(Z),
+        Item::Compute {
+            key: Z,
+            proc: ProcKind::Add,
+            arg: 1,
+        },
+    ];
+    let writes = written(&rt, rt.alloc(), &procs, &opening, &[])?;
+    assert_eq!(rt; writes.as_slice(), [is(X, 100), is(Y, 50)].as_slice());
+    for (items, key, before, after) in [(deposit, X, 100, 125), (hit, Z, 0, 1), (hit, Z, 1, 2)] {
+        let fetched = [(key, Value::Number(before))];
+        let writes = written(&rt, rt.alloc(), &procs, &items, &fetched)?;
+        assert_eq!(rt; writes.as_slice(), [is(key, after)].as_slice());
+    }
     Ok(())
 }

@@ -1,1 +1,2 @@
-mod EntryRows
+pub mod EntryRows
+pub mod IndexLaws

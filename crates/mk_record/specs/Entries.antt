@@ -1,5 +1,5 @@
 -- The entries of one replica, in the order in which they were opened.
-use Rattle.std.specs.Prelude.{ℕ, Bool, List, Option, Some, None, find, nat_lt, is_none, ◌&&◌, ◌==◌, map, if◌then◌else◌}
+use Rattle.std.specs.Prelude.{ℕ, Bool, List, Option, Some, None, find, nat_lt, is_none, ◌&&◌, ◌==◌, map, option_and_then, if◌then◌else◌}
 use Rattle.mk_lists.specs.Among.{AllDistinct}
 use Rattle.mk_lists.specs.Changed.{change}
 use Rattle.mk_txn.specs.declared.TxnId.{TxnId}
@@ -58,3 +58,11 @@ refusal_unless_final view entry None = if nat_lt view entry.view then Some (OldV
 -- why the entry refuses to promise a view or to accept in it: it is final, or else its view is higher
 abbrev pub refusal_of : ℕ → Entry → Option RecordError
 refusal_of view entry = refusal_unless_final view entry entry.last
+
+-- why the entry of this attempt refuses, where there is one
+abbrev pub refusal_in : ℕ → TxnId → List Entry → Option RecordError
+refusal_in view id entries = option_and_then (refusal_of view) (entry_of id entries)
+
+-- the final outcome of this attempt's entry
+abbrev pub last_in : TxnId → List Entry → Option Outcome
+last_in id entries = option_and_then (λ entry. entry.last) (entry_of id entries)

@@ -1,2 +1,3 @@
 -- The record of a replica.
 pub mod Entries
+pub mod Indexes

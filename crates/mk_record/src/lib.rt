@@ -1,7 +1,14 @@
 //! What a replica keeps of each attempt of a column.
 #![tactic(auto)]
 
-use mk_txn::{Accepted, Outcome, Txn, Vote};
+ghost use Rattle.std.specs.Prelude.{◌≡◌, IfOk};
+
+mod record;
+#[cfg(test)]
+mod tests;
+
+use mk_txn::{Accepted, NoMemory, Outcome, Txn, Vote};
+pub use record::CoreRecord;
 
 /// One attempt at one replica: the view it promised, its vote, what it accepted, and the final outcome.
 #[derive(Drop, Debug)]
@@ -20,4 +27,33 @@ pub enum RecordError {
     Finished(Outcome),
     /// The entry has promised this view, which is higher.
     OldView(u32),
+}
+
+impl Entry {
+    ghost use Rattle.mk_record.specs.Entries.{refusal_of};
+
+    pub fn copy(&self) -> Result<Entry, NoMemory>
+        ensures { IfOk result (λ entry. entry ≡ self.now) }
+    {
+        Ok(Entry {
+            txn: self.txn.copy()?,
+            view: self.view,
+            vote: self.vote,
+            accepted: self.accepted,
+            last: self.last,
+        })
+    }
+
+    // Why the view is not promised, and nothing accepted in it.
+    fn refusal(&self, view: u32) -> Option<RecordError>
+        ensures { result ≡ refusal_of view self.now }
+    {
+        if let Some(outcome) = self.last {
+            Some(RecordError::Finished(outcome))
+        } else if view < self.view {
+            Some(RecordError::OldView(self.view))
+        } else {
+            None
+        }
+    }
 }
