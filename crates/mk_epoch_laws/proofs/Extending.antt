@@ -14,7 +14,7 @@ use Rattle.mk_epoch.specs.EpochState.{EpochState, ReplicaState, GivenPromise, Ma
 use Rattle.mk_epoch.specs.GlobalSteps.{global_after, change_replica, wiped, promised, promise_of, with_promise, with_base, adopting, base_or_empty, HandedIn, with_adoption, awaits_enter, serving}
 use Rattle.mk_epoch_laws.specs.WordLaws.{EverHad}
 use Rattle.mk_epoch_laws.specs.BaseLaws.{IsHeld}
-use Rattle.mk_epoch_laws.proofs.ListLaws.{append-none, append-later, filter-append, find-append_some, list_any-append, count_below-more, length-slice_set, length-change}
+use Rattle.mk_merge_laws.proofs.ListLaws.{append-none, append-later, filter-append, find-append_some, list_any-append, count_below-more, length-slice_set, length-change}
 
 pub record Extends (old new : EpochState) : Type 0 where
   pub same_faults : new.faults ≡ old.faults

@@ -15,7 +15,7 @@ use Rattle.mk_epoch.specs.EpochState.{base_for, EpochState, ReplicaState, GivenP
 use Rattle.mk_epoch.specs.GlobalAnswers.{lacks, global_answer, promise_answer, adopt_answer, is_accepted}
 use Rattle.mk_epoch.specs.GlobalSteps.{global_after, HandedIn, change_replica, wiped, promised, promise_of, with_promise, with_base, adopting, base_or_empty, with_adoption}
 use Rattle.mk_epoch_laws.specs.WordLaws.{IsAt, EverHad, OnePromiseEach}
-use Rattle.mk_epoch_laws.proofs.ListLaws.{both_true, eqb-tells, eqb-same, filter-append, find-there, distinct-push, Among-mapped}
+use Rattle.mk_merge_laws.proofs.ListLaws.{both_true, eqb-tells, eqb-same, filter-append, find-there, distinct-push, Among-mapped}
 use Rattle.mk_epoch_laws.proofs.LineNews.{promise_done, adopt_done, promise_news, adoption_news, made_news, still_at}
 use Rattle.mk_epoch_laws.proofs.Extending.{Extends, line_extends, keeps_had, keeps_base, keeps_base_for, later_promises}
 use Rattle.mk_epoch_laws.proofs.EpochFacts.{EpochFacts, ReplicaFacts, PromiseFacts, MadeFacts}

@@ -1,4 +1,3 @@
-mod ListLaws
 mod LineNews
 mod Extending
 mod EpochFacts

@@ -16,7 +16,7 @@ use Rattle.mk_epoch.specs.EpochState.{EpochState, ReplicaState, GivenPromise, Ma
 use Rattle.mk_epoch.specs.GlobalAnswers.{global_answer, promise_answer, adopt_answer, enter_answer, merge_answer, merge_refusal, counts_of, is_too_old, lacks, is_accepted}
 use Rattle.mk_epoch.specs.GlobalSteps.{global_after, change_replica, wiped, promised, promise_of, with_promise, with_base, adopting, base_or_empty, serving, is_adopted, HandedIn, with_adoption, awaits_enter}
 use Rattle.mk_epoch_laws.specs.WordLaws.{IsAt}
-use Rattle.mk_epoch_laws.proofs.ListLaws.{both_true, eqb-tells, slice_get-set, slice_get-set_some, slice_get-change, slice_get-changed}
+use Rattle.mk_merge_laws.proofs.ListLaws.{both_true, eqb-tells, slice_get-set, slice_get-set_some, slice_get-change, slice_get-changed}
 
 -- the line gives this replica a promise or an adoption
 abbrev pub Concerns : GlobalLine → ℕ → Type 0

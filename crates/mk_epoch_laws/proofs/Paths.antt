@@ -13,7 +13,7 @@ use Rattle.mk_epoch.specs.EpochState.{GivenPromise, Adoption, EpochState, MadeBa
 use Rattle.mk_epoch.specs.Force.{InForce, LeadsToMajority, source_of}
 use Rattle.mk_epoch_laws.specs.BaseLaws.{IsMade, IsHeld}
 use Rattle.mk_epoch_laws.specs.PathLaws.{EpochsInOrder, IsBuiltOn, down, PathsPass}
-use Rattle.mk_epoch_laws.proofs.ListLaws.{eqb-tells, slice_get-below}
+use Rattle.mk_merge_laws.proofs.ListLaws.{eqb-tells, slice_get-below}
 use Rattle.mk_epoch_laws.proofs.EpochFacts.{EpochFacts}
 use Rattle.mk_epoch_laws.proofs.FactsKept.{given_of}
 use Rattle.mk_epoch_laws.proofs.ReplicasKept.{made_there}

@@ -11,7 +11,7 @@ use Rattle.mk_quorum.specs.Counts.{count_below}
 use Rattle.mk_quorum.specs.Sizes.{majority_of}
 use Rattle.mk_merge.specs.Promises.{PromiseState}
 use Rattle.mk_merge.specs.Promises.{chosen, highest_adopted, leader_of, can_merge}
-use Rattle.mk_epoch_laws.proofs.ListLaws.{both_true, eqb-tells, filter-append, take-append, list_any-append}
+use Rattle.mk_merge_laws.proofs.ListLaws.{Among-filter, both_true, eqb-tells, filter-append, take-append, list_any-append}
 
 count_below-same : (n : ℕ) (p q : ℕ → Bool) → ((r : ℕ) → r < n → p r ≡ q r) → count_below n p ≡ count_below n q
 count_below-same zero p q h = refl
@@ -49,15 +49,6 @@ count_distinct n [] d e = omega arith
 count_distinct n (x ∷ xs) d e =
     let again = count_distinct n xs d.1 e.1 in
     omega (arith, again, count_below-add n x (λ r. list_any (λ y. y == r) xs) e.0 (not_member x xs d.0))
-
-pub Among-filter : {X : Type 0} (p : X → Bool) (x : X) (xs : List X) → Among x (filter p xs) → Among x xs × (p x ≡ true)
-Among-filter p x [] a = absurd a
-Among-filter {X} p x (y ∷ ys) a = by (Among-filter p x ys) (p y) refl a
-  where
-    by : (Among x (filter p ys) → Among x ys × (p x ≡ true)) → (b : Bool) → p y ≡ b → Among x (cond b (y ∷ filter p ys) (filter p ys)) → Among x (y ∷ ys) × (p x ≡ true)
-    by again true e (inl eq) = (inl eq, subst (λ (z : X). p z ≡ true) eq e)
-    by again true e (inr rest) = let k = again rest in (inr k.0, k.1)
-    by again false e rest = let k = again rest in (inr k.0, k.1)
 
 Among-take : {X : Type 0} (n : ℕ) (x : X) (xs : List X) → Among x (take n xs) → Among x xs
 Among-take zero x xs a = absurd a

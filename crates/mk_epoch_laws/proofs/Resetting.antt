@@ -16,7 +16,7 @@ use Rattle.mk_epoch.specs.GlobalSteps.{HandedIn, IsAnswer, global_after, change_
 use Rattle.mk_epoch_laws.specs.Turns.{GlobalTurn, after_turn, after_turns, EachAnswered, AlwaysLater, Enters, WasEntered, Resets}
 use Rattle.mk_epoch_laws.specs.WordLaws.{IsAt, WordsRise}
 use Rattle.mk_epoch_laws.specs.BaseLaws.{IsMade, IsHeld, ServingWasEntered, EnteredWasHeld, ResetForGood}
-use Rattle.mk_epoch_laws.proofs.ListLaws.{both_true, eqb-tells, some_same, slice_get-set_same}
+use Rattle.mk_merge_laws.proofs.ListLaws.{both_true, eqb-tells, some_same, slice_get-set_same}
 use Rattle.mk_epoch_laws.proofs.LineNews.{ReplicaNews, Stayed, WasWiped, HasPromised, HasAdopted, HasEntered, replica_news, still_at, adopt_done, enter_done}
 use Rattle.mk_epoch_laws.proofs.Extending.{Extends, keeps_held, keeps_base_for}
 use Rattle.mk_epoch_laws.proofs.EpochFacts.{EpochFacts, ReplicaFacts}

@@ -1,9 +1,9 @@
 -- Small laws of lists, of places in them, and of counts.
 use Rattle.std.proofs.Common.{◌≡◌, ◌⊎◌, ◌<◌, ◌≤◌, ◌+◌, ℕ, zero, suc, Bool, true, false, refl, arith, inl, inr, sym, ap, ◌∙◌, List, [], ◌∷◌, ◌++◌, Option, Some, subst, cond, ◌&&◌, ◌||◌, length, map, take}
-use Rattle.std.specs.Prelude.{slice_get, slice_set, ◌==◌, filter, find}
+use Rattle.std.specs.Prelude.{slice_get, slice_set, ◌==◌, filter, find, flat_map}
 use Rattle.std.specs.List.{list_any}
 use Rattle.std.proofs.lemmas.Bool.Decides.{nat_tests}
-use Rattle.mk_lists.specs.Among.{Among, AllDistinct, Among-append}
+use Rattle.mk_lists.specs.Among.{Among, AllDistinct, Among-append, Among-append_left, Among-append_right}
 use Rattle.mk_lists.specs.Changed.{change}
 use Rattle.mk_quorum.specs.Counts.{count_below}
 
@@ -160,3 +160,34 @@ count_below-more (suc n) p q h = by (count_below-more n p q h) (p n) refl (q n) 
     by again true e false k = absurd (cc (sym k ∙ h n e))
     by again false e true k = omega (arith, again)
     by again false e false k = omega (arith, again)
+
+pub Among-filter : {X : Type 0} (p : X → Bool) (x : X) (xs : List X) → Among x (filter p xs) → Among x xs × (p x ≡ true)
+Among-filter p x [] a = absurd a
+Among-filter {X} p x (y ∷ ys) a = by (Among-filter p x ys) (p y) refl a
+  where
+    by : (Among x (filter p ys) → Among x ys × (p x ≡ true)) → (b : Bool) → p y ≡ b → Among x (cond b (y ∷ filter p ys) (filter p ys)) → Among x (y ∷ ys) × (p x ≡ true)
+    by again true e (inl eq) = (inl eq, subst (λ (z : X). p z ≡ true) eq e)
+    by again true e (inr rest) = let k = again rest in (inr k.0, k.1)
+    by again false e rest = let k = again rest in (inr k.0, k.1)
+
+pub Among-filtered : {X : Type 0} (p : X → Bool) (x : X) (xs : List X) → Among x xs → p x ≡ true → Among x (filter p xs)
+Among-filtered p x [] a e = absurd a
+Among-filtered {X} p x (y ∷ ys) a e = by (λ b. Among-filtered p x ys b e) (p y) refl a
+  where
+    by : (Among x ys → Among x (filter p ys)) → (b : Bool) → p y ≡ b → Among x (y ∷ ys) → Among x (cond b (y ∷ filter p ys) (filter p ys))
+    by again true k (inl same) = inl same
+    by again true k (inr b) = inr (again b)
+    by again false k (inl same) = absurd (cc (sym k ∙ subst (λ (z : X). p z ≡ true) (sym same) e))
+    by again false k (inr b) = again b
+
+pub Among-flat_map : {X Y : Type 0} (f : X → List Y) (y : Y) (x : X) (xs : List X) → Among x xs → Among y (f x) → Among y (flat_map f xs)
+Among-flat_map f y x [] a b = absurd a
+Among-flat_map {X} {Y} f y x (z ∷ xs) (inl same) b = Among-append_left y (f z) (flat_map f xs) (subst (λ (w : X). Among y (f w)) (sym same) b)
+Among-flat_map f y x (z ∷ xs) (inr a) b = Among-append_right y (f z) (flat_map f xs) (Among-flat_map f y x xs a b)
+
+pub Among-flat_mapped : {X Y : Type 0} (f : X → List Y) (y : Y) (xs : List X) → Among y (flat_map f xs) → (x : X) × Among x xs × Among y (f x)
+Among-flat_mapped f y [] a = absurd a
+Among-flat_mapped f y (x ∷ xs) a = elim (Among-append y (f x) (flat_map f xs) a) [
+  | inl here ↦ (x, inl refl, here)
+  | inr there ↦ let k = Among-flat_mapped f y xs there in (k.0, inr k.1, k.2)
+]

@@ -1,0 +1,5 @@
+pub mod ListLaws
+pub mod Reports
+pub mod Orders
+pub mod Taking
+pub mod Composed

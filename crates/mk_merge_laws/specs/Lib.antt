@@ -1,0 +1,2 @@
+-- What a base is composed of.
+pub mod Composition
