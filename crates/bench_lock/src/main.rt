@@ -75,10 +75,14 @@ fn own_key(alloc: Global) -> Result<Own, NoMemory> {
 }
 
 fn act_on_own_keys<R: Threads + Wait + Sync>(rt: &R, owns: Vec<Own>) -> Result<u64, NoMemory> {
-    let counts = thread::map_vec(rt, owns, &move |own: Own| -> u32 {
-        let Own { lock, seat } = own;
-        act_often(rt, &lock, seat)
-    })?;
+    let counts = thread::map_vec(
+        rt,
+        owns,
+        &move |own: Own| -> u32 {
+            let Own { lock, seat } = own;
+            act_often(rt, &lock, seat)
+        },
+    )?;
     Ok(total(counts.as_slice()))
 }
 
@@ -98,8 +102,9 @@ fn rate_on_one_key<R: Threads + Wait + Clock + Sync>(
 ) -> io::Result<u128>
     requires { 1 ≤ threads }
 {
-    let (lock, seats) =
-        KeyLock::new(alloc, 0, 0, Cell::new(alloc), threads).map_err(out_of_memory)?;
+    let (lock, seats) = KeyLock::new(alloc, 0, 0, Cell::new(alloc), threads).map_err(
+        out_of_memory,
+    )?;
     let start = Instant::now(rt)?;
     let acts = act_on_one_key(rt, &lock, seats).map_err(out_of_memory)?;
     Ok(rate(acts, start.elapsed(rt)?))
@@ -135,7 +140,13 @@ fn measure<R: Threads + Wait + Clock + Print + AllocGlobal + Sync>(rt: &R) -> io
     for threads in [1u32, 2, 4] {
         let own = hundredths(rate_on_own_keys(rt, alloc, threads)?, one_own);
         let same = hundredths(rate_on_one_key(rt, alloc, threads)?, one_same);
-        println!(rt; "{threads:7}  {:5}.{:02}  {:4}.{:02}", own / 100, own % 100, same / 100, same % 100)?;
+        println!(rt;
+            "{threads:7}  {:5}.{:02}  {:4}.{:02}",
+            own / 100,
+            own % 100,
+            same / 100,
+            same % 100
+        )?;
     }
     Ok(())
 }

@@ -11,7 +11,5 @@ mod tests;
 mod view;
 
 pub use gate::{Gate, NoGate};
-pub use journal::Journal;
 pub use lock::KeyLock;
 pub use seat::Seat;
-pub use view::{Held, Origin, Stage, View};
