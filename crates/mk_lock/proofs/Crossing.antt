@@ -1,11 +1,11 @@
 -- Seats may go to other threads, and locks may be shared.
-use mir.Syntax.{w32, w64}
+use mir.Syntax.{w32}
 use denote.Plain.{UInt}
 use denote.Struct.Struct.{Struct}
 use denote.Struct.Declared as structs
 use denote.Enum.Enum.{Enum}
 use denote.Enum.Declared as enums
-use denote.Param.Send.{IsSend, IsSync, EachSend, sendable, recorded_send, recorded_sync, struct_send, struct_sync, enum_send, view_send, view_sync}
+use denote.Param.Send.{IsSend, IsSync, sendable, recorded_send, struct_send, enum_send, view_send, view_sync}
 use denote.Param.SendFields.{declared_send, declared_sync}
 use Rattle.std.proofs.Crossing.{crosses, frees}
 use Rattle.std.specs.contracts.alloc.Global.{the_row as global_row}

@@ -1,12 +1,12 @@
 -- Each step of the lock keeps its rule.
-use Rattle.std.proofs.Common.{◌≡◌, ◌≢◌, ℕ, zero, suc, ◌+◌, ◌%◌, ◌^◌, ◌<◌, ◌≤◌, ◌⊎◌, eqb, cond, List, [], ◌∷◌, ◌++◌, length, get_or, set, drop, sym, refl, ap, ◌∙◌, inl, inr, ⊎_elim, subst, arith, length-set, length-append, get_or-set_same, get_or-set_other, eq-eqb, ne_eqb, append-nil}
+use Rattle.std.proofs.Common.{◌≡◌, ◌≢◌, ℕ, zero, suc, ◌+◌, ◌%◌, ◌^◌, ◌<◌, ◌≤◌, eqb, cond, List, [], ◌∷◌, ◌++◌, length, get_or, set, drop, sym, refl, ap, ◌∙◌, inl, inr, ⊎_elim, subst, arith, length-set, length-append, get_or-set_same, get_or-set_other, eq-eqb, ne_eqb, append-nil}
 use Rattle.std.proofs.lemmas.List.Elements.{filter-append}
 use Rattle.std.proofs.Math.Seq.{drop-append_seam}
 use mathlib.Core.Option.{Option, none, some, some-injective, some-ne-none}
 use mathlib.Core.Logic.{dite}
 use native.Mathlib.Decide.{ℕ_discrete}
 use lib.ListN.{get_elem?}
-use Rattle.atomic_table.specs.Table.{State, Me, step, keeps, takes, gives, stepped, opening, Allows, Splits, Joins, Final, Seen}
+use Rattle.atomic_table.specs.Table.{State, Me, step, keeps, takes, gives, opening, Allows, Splits, Joins, Final, Seen}
 use Rattle.atomic_table.proofs.Lists.{set_else, set_here, set_again, at_longer, one_turn}
 use Rattle.mk_cell.specs.declared.JournalEntry.{JournalEntry}
 use Rattle.mk_lock.specs.declared.view.Held.{Held}
@@ -15,7 +15,7 @@ use Rattle.mk_lock.specs.declared.view.Stage.TheVariants.{Idle, Waiting, InTurn}
 use Rattle.mk_lock.specs.declared.view.View.{View}
 use Rattle.mk_lock.specs.declared.view.Origin.{Origin}
 use Rattle.mk_lock.specs.Entries.{JournalState, of_seat, IsBy}
-use Rattle.mk_lock.specs.Turns.{held, view, fresh, tickets, tickets_of, seats_of, total, Each, IsInTurn, kept, taken, Knows, Owns, Fits, IsPlaced, IsKept, begins, spent, both_seats, Drawn, Awaited, AwaitedAt, Ended, added, longer}
+use Rattle.mk_lock.specs.Turns.{held, view, fresh, tickets, tickets_of, seats_of, total, Each, IsInTurn, kept, taken, Knows, Owns, Fits, IsPlaced, IsKept, begins, spent, both_seats, Drawn, Awaited, AwaitedAt, Ended}
 use Rattle.mk_lock.proofs.EntryLaws.{of_seat_mine, of_seat_other}
 use Rattle.mk_lock.proofs.TotalLaws.{total-set, total-snoc, total-two, total-le, each-set, each-imp, each-append, at-snoc}
 

@@ -1,5 +1,5 @@
 -- What the steps of a turn tell.
-use Rattle.std.proofs.Common.{◌≡◌, ◌≢◌, ℕ, ◌%◌, ◌^◌, List, [], ◌∷◌, ◌++◌, length, drop, Result, Ok, Err, IfOk, OnErr, refl, sym, ap, ◌∙◌, subst, append-nil}
+use Rattle.std.proofs.Common.{◌≡◌, ◌≢◌, ℕ, List, [], ◌∷◌, ◌++◌, length, drop, Result, Ok, Err, IfOk, OnErr, refl, sym, ap, ◌∙◌, subst, append-nil}
 use Rattle.std.proofs.Math.Seq.{drop-append_seam}
 use Rattle.atomic_table.specs.Table.{Me, rest}
 use Rattle.mk_txn.specs.declared.NoMemory.{NoMemory}
@@ -7,7 +7,7 @@ use Rattle.mk_cell.specs.declared.Act.{Act}
 use Rattle.mk_cell.specs.declared.Answer.{Answer}
 use Rattle.mk_cell.specs.declared.JournalEntry.{JournalEntry}
 use Rattle.mk_lock.specs.declared.view.Stage.{Stage}
-use Rattle.mk_lock.specs.declared.view.Stage.TheVariants.{Idle, Waiting, InTurn}
+use Rattle.mk_lock.specs.declared.view.Stage.TheVariants.{Waiting, InTurn}
 use Rattle.mk_lock.specs.declared.view.View.{View}
 use Rattle.mk_lock.specs.Entries.{JournalState, entry, IsBy}
 use Rattle.mk_lock.specs.Turns.{view, held, taken, AwaitedAt, Waits, HasTicket, HasTurn, MayEnd, ended}

@@ -1,8 +1,8 @@
-use Rattle.std.proofs.Common.{rules, ◌≡◌, ℕ, ◌<◌, ◌+◌, [], ◌∷◌, ◌++◌, length, slice_get, Some, add-one, ap, ◌∙◌, subst, sym}
+use Rattle.std.proofs.Common.{rules, ◌≡◌, [], ◌∷◌, ◌++◌, slice_get, add-one, ap, ◌∙◌}
 use Rattle.atomic_table.specs.Table.{Me}
 use Rattle.mk_lock.specs.declared.view.View.{View}
 use Rattle.mk_lock.specs.Entries.{JournalState}
-use Rattle.mk_lock.specs.Seats.{SeatView, seat_view}
+use Rattle.mk_lock.specs.Seats.{seat_view}
 use Rattle.mk_lock.proofs.SeatLaws.{deals_at, dealt_left, dealt_right, fresh_more}
 use Rattle.mk_lock.proofs.lock.deal.Goals as goal
 

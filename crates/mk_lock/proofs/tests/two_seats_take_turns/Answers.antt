@@ -1,4 +1,4 @@
-use Rattle.std.proofs.Common.{rules, arith, length, length-set, ◌∙◌, sym}
+use Rattle.std.proofs.Common.{arith}
 use Rattle.std.proofs.lemmas.Grind.{common_steps}
 use Rattle.mk_lock.proofs.SeatUse.{seats_set}
 use Rattle.mk_lock.proofs.tests.two_seats_take_turns.Goals as goal

@@ -1,5 +1,5 @@
-use Rattle.std.proofs.Common.{rules, ◌≡◌, ◌∙◌, sym, ap}
-use Rattle.mk_lock.proofs.TurnLaws.{act_ends, rests_again}
+use Rattle.std.proofs.Common.{rules}
+use Rattle.mk_lock.proofs.TurnLaws.{act_ends}
 use Rattle.mk_lock.proofs.lock.KeyLock.act.Goals as goal
 
 pub end_turn-requires : goal.end_turn-requires

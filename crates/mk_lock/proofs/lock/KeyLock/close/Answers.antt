@@ -1,10 +1,6 @@
-use Rattle.std.proofs.Common.{rules, ◌≡◌, ℕ, length, ap, sym, ◌∙◌, subst}
-use Rattle.atomic_table.specs.Table.{Me}
-use Rattle.mk_lock.specs.declared.view.View.{View}
-use Rattle.mk_lock.specs.Entries.{JournalState}
-use Rattle.mk_lock.specs.Seats.{LockView, SeatView, held_of, IsJournalOf}
-use Rattle.mk_lock.proofs.StepLaws.{closes}
-use Rattle.mk_lock.proofs.SeatLaws.{journal_after, length-held}
+use Rattle.std.proofs.Common.{ap, sym, ◌∙◌, subst}
+use Rattle.mk_lock.specs.Seats.{LockView, IsJournalOf}
+use Rattle.mk_lock.proofs.SeatLaws.{journal_after}
 use Rattle.mk_lock.proofs.lock.KeyLock.close.Goals as goal
 
 pub returns : goal.returns

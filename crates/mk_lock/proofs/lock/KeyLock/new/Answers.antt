@@ -1,4 +1,4 @@
-use Rattle.std.proofs.Common.{rules, ◌≡◌, ℕ, List, [], ◌∷◌, ◌++◌, arith, ap, ◌∙◌, sym, subst}
+use Rattle.std.proofs.Common.{◌≡◌, List, [], ◌∷◌, ◌++◌, arith, ap, ◌∙◌, sym, subst}
 use Rattle.atomic_table.specs.Table.{opening}
 use Rattle.mk_cell.specs.Cells.{CellView}
 use Rattle.mk_lock.specs.declared.view.Origin.{Origin}

@@ -1,4 +1,4 @@
-use Rattle.std.proofs.Common.{rules, ◌≡◌, sym, ap, ◌∙◌, subst}
+use Rattle.std.proofs.Common.{rules, sym, ap, ◌∙◌, subst}
 use Rattle.atomic_table.specs.Table.{Me}
 use Rattle.mk_lock.specs.declared.view.View.{View}
 use Rattle.mk_lock.specs.Entries.{JournalState}
