@@ -16,7 +16,8 @@ use Rattle.mk_cell.specs.declared.JournalEntry.{JournalEntry}
 use Rattle.mk_cell.specs.Cells.{CellState}
 use Rattle.mk_lock.specs.declared.view.Held.{Held}
 use Rattle.mk_lock.specs.Seats.{SeatView, seat_view, held_of, resting, AreSeatsOf, IsJournalOf}
-use Rattle.mk_lock.specs.Turns.{view, fresh, held, Each, IsKept, first_seat, other_seats, both_seats}
+use Rattle.mk_lists.specs.Among.{Each}
+use Rattle.mk_lock.specs.Turns.{view, fresh, held, IsKept, first_seat, other_seats, both_seats}
 use Rattle.mk_lock.proofs.StepLaws.{deals, closes}
 
 pub get-front : {X : Type 0} (xs ys : List X) (k : ℕ) → k < length xs → slice_get (xs ++ ys) k ≡ slice_get xs k

@@ -15,9 +15,10 @@ use Rattle.mk_lock.specs.declared.view.Stage.TheVariants.{Idle, Waiting, InTurn}
 use Rattle.mk_lock.specs.declared.view.View.{View}
 use Rattle.mk_lock.specs.declared.view.Origin.{Origin}
 use Rattle.mk_lock.specs.Entries.{JournalState, of_seat, IsBy}
-use Rattle.mk_lock.specs.Turns.{held, view, fresh, tickets, tickets_of, seats_of, total, Each, IsInTurn, kept, taken, Knows, Owns, Fits, IsPlaced, IsKept, begins, spent, both_seats, Drawn, Awaited, AwaitedAt, Ended}
+use Rattle.mk_lists.specs.Among.{Each, Each-weaker, Each-append}
+use Rattle.mk_lock.specs.Turns.{held, view, fresh, tickets, tickets_of, seats_of, total, IsInTurn, kept, taken, Knows, Owns, Fits, IsPlaced, IsKept, begins, spent, both_seats, Drawn, Awaited, AwaitedAt, Ended}
 use Rattle.mk_lock.proofs.EntryLaws.{of_seat_mine, of_seat_other}
-use Rattle.mk_lock.proofs.TotalLaws.{total-set, total-snoc, total-two, total-le, each-set, each-imp, each-append, at-snoc}
+use Rattle.mk_lock.proofs.TotalLaws.{total-set, total-snoc, total-two, total-le, each-set, at-snoc}
 
 abbrev St : Type 0
 St = State JournalState View
@@ -270,7 +271,7 @@ module _ (key : Origin) where
               (λ j u other e. let f = r.each j u e in record {
                 knows = end_stage r.next r.served r.journal journal r.holder s.homes (set s.homes 0 (some y)) id j served_is other u.stage f.knows;
                 enough = f.enough;
-                owns = each-imp (Owns key r.journal r.owner j) (Owns key journal r.owner j)
+                owns = Each-weaker (Owns key r.journal r.owner j) (Owns key journal r.owner j)
                     (λ k o. (
                       o.0,
                       o.1,
@@ -319,7 +320,7 @@ module _ (key : Origin) where
       (λ j u other e. let f = r.each j u e in record {
         knows = f.knows;
         enough = f.enough;
-        owns = each-imp (Owns key r.journal r.owner j) (Owns key r.journal owner j)
+        owns = Each-weaker (Owns key r.journal r.owner j) (Owns key r.journal owner j)
             (λ k o. (o.0, ap (λ b. cond b new (r.owner k.number)) (ne_eqb k.number number (λ same. other (sym o.1 ∙ (ap r.owner same ∙ own.1)))) ∙ o.1, o.2)) u.held f.owns;
       }) in
       record {
@@ -373,14 +374,14 @@ module _ (key : Origin) where
       (λ _. record {
         knows = mine.knows;
         enough = omega arith;
-        owns = each-append (Owns key r.journal owner id) v.held w.held
-            (each-imp (Owns key r.journal r.owner id) (Owns key r.journal owner id) (stays id (λ same. apart (sym same))) v.held mine.owns)
-            (each-imp (Owns key r.journal r.owner other) (Owns key r.journal owner id) moves w.held theirs.owns);
+        owns = Each-append (Owns key r.journal owner id) v.held w.held
+            (Each-weaker (Owns key r.journal r.owner id) (Owns key r.journal owner id) (stays id (λ same. apart (sym same))) v.held mine.owns)
+            (Each-weaker (Owns key r.journal r.owner other) (Owns key r.journal owner id) moves w.held theirs.owns);
       })
       (λ k z not_id e' not_that. let f = r.each k z e' in record {
         knows = f.knows;
         enough = f.enough;
-        owns = each-imp (Owns key r.journal r.owner k) (Owns key r.journal owner k) (stays k not_that) z.held f.owns;
+        owns = Each-weaker (Owns key r.journal r.owner k) (Owns key r.journal owner k) (stays k not_that) z.held f.owns;
       }) j u e not_other in
       record {
         next = r.next;
@@ -444,7 +445,7 @@ module _ (key : Origin) where
       let home = idle_at s r id v seen.1 idle whole r.placed in
       let x_is : kept key r.journal ≡ x = some-injective (kept key r.journal) x (sym (there 0 (kept key r.journal) home) ∙ is) in (
         ap (λ (k : JournalState). k.opening) (sym x_is),
-        each-imp (Owns key r.journal r.owner id) (λ h. of_seat h.number x.entries ≡ h.entries)
+        Each-weaker (Owns key r.journal r.owner id) (λ h. of_seat h.number x.entries ≡ h.entries)
             (λ h o. ap (λ (k : JournalState). of_seat h.number k.entries) (sym x_is) ∙ o.2) v.held (r.each id v seen.1).owns,
         λ number far. ap (λ (k : JournalState). of_seat number k.entries) (sym x_is) ∙ r.no_stranger number far,
       )

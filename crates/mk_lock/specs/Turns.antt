@@ -4,6 +4,7 @@ use Rattle.std.specs.Prelude.{◌≡◌, ◌≢◌, ℕ, zero, suc, ◌+◌, ◌
 use mathlib.Core.Option.{Option, none, some}
 use lib.ListN.{get_elem?}
 use Rattle.atomic_table.specs.Table.{State, Me, Step}
+use Rattle.mk_lists.specs.Among.{Each}
 use Rattle.mk_cell.specs.declared.JournalEntry.{JournalEntry}
 use Rattle.mk_lock.specs.declared.view.Held.{Held}
 use Rattle.mk_lock.specs.declared.view.Stage.{Stage}
@@ -37,11 +38,6 @@ seats_of v = length v.held
 abbrev pub total : (View → ℕ) → List View → ℕ
 total f [] = 0
 total f (v ∷ vs) = f v + total f vs
-
--- each of these numbers
-abbrev pub Each : (Held → Type 0) → List Held → Type 0
-Each P [] = Unit {0}
-Each P (h ∷ hs) = P h × Each P hs
 
 abbrev pub IsInTurn : Stage → Type 0
 IsInTurn (InTurn ticket taken) = Unit {0}
