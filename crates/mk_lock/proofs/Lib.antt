@@ -1,0 +1,7 @@
+pub mod EntryLaws
+pub mod TotalLaws
+pub mod StepLaws
+pub mod TurnLaws
+pub mod SeatLaws
+pub mod SeatUse
+pub mod Crossing
