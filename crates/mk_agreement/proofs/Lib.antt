@@ -6,3 +6,9 @@ pub mod SortedAttempts
 pub mod SortedTakeovers
 pub mod SortedEntries
 pub mod SortedSteps
+pub mod Orderly
+pub mod Choices
+pub mod Agreed
+pub mod Decisions
+pub mod SortedLearnings
+pub mod Growing

@@ -196,7 +196,7 @@ pub record AttemptGrows (a b : AttemptState) : Type 0 where
 
 -- a takeover once it is there
 pub record TakeoverGrows (a b : TakeoverOf) : Type 0 where
-  pub closed : a.closed ≡ true → b ≡ a
+  pub closed : a.closed ≡ true → b.closed ≡ true
   pub proposed : (outcome : Outcome) → a.state.proposed ≡ Some outcome → b.state.proposed ≡ Some outcome
   pub learned : (outcome : Outcome) → a.state.learned ≡ Some outcome → b.state.learned ≡ Some outcome
 
