@@ -14,7 +14,7 @@ use Rattle.mk_quorum.specs.Slots.{slot}
 use Rattle.mk_valid.specs.Validations.{ValidationState}
 use Rattle.mk_coord.specs.Rulings.{CoordState, ruling}
 use Rattle.mk_takeover.specs.Picks.{TakeoverState, pick}
-use Rattle.mk_column.specs.ColumnState.{AttemptState, TakeoverOf, Work, attempt_of, takeover_of}
+use Rattle.mk_column.specs.ColumnState.{ColumnState, AttemptState, TakeoverOf, Work, attempt_of, takeover_of}
 use Rattle.mk_column.specs.ColumnState.Work.{Idle, Fetching, Validating, Finishing}
 use Rattle.mk_column.specs.Answers.{coord_answered, attempt_answered, state_answered, takeover_answered, moved_outcome}
 use Rattle.mk_column.specs.Steps.{with_txn, with_read, proposing, taught as having_learned, closing, takeover_proposing}
@@ -71,24 +71,24 @@ answered_proposed r (ToldBody told) c = refl
 answered_proposed r (MovedBody moved) c = refl
 answered_proposed r _ c = refl
 
-change_grows : (taught : Taught) (m : Moment) (id : TxnId) (a b : AttemptState) → AttemptFacts taught m id a → AttemptChange m id a b → AttemptGrows a b
-change_grows taught m id a b f (EndsReading e) = subst (AttemptGrows a) (sym e) (record { same_id = refl; same_epoch = refl; same_replica = refl; same_unread = refl; txn = λ t k. k; stopped = λ k. k; proposed = λ o k. k; learned = λ o k. k; no_more = λ _. refl; votes = λ r v k. k })
-change_grows taught m id a b f (Reads replica key answer w e) = subst (AttemptGrows a) (sym e) (record { same_id = refl; same_epoch = refl; same_replica = refl; same_unread = refl; txn = λ t k. k; stopped = λ k. k; proposed = λ o k. k; learned = λ o k. k; no_more = λ _. refl; votes = λ r v k. k })
-change_grows taught m id a b f (Stamps client clock stamp writes reading c n e) = subst (AttemptGrows a) (sym e)
+change_grows : (taught : Taught) (m : Moment) (next : ColumnState) (id : TxnId) (a b : AttemptState) → AttemptFacts taught m id a → AttemptChange m next id a b → AttemptGrows a b
+change_grows taught m next id a b f (EndsReading e) = subst (AttemptGrows a) (sym e) (record { same_id = refl; same_epoch = refl; same_replica = refl; same_unread = refl; txn = λ t k. k; stopped = λ k. k; proposed = λ o k. k; learned = λ o k. k; no_more = λ _. refl; votes = λ r v k. k })
+change_grows taught m next id a b f (Reads replica key answer w e) = subst (AttemptGrows a) (sym e) (record { same_id = refl; same_epoch = refl; same_replica = refl; same_unread = refl; txn = λ t k. k; stopped = λ k. k; proposed = λ o k. k; learned = λ o k. k; no_more = λ _. refl; votes = λ r v k. k })
+change_grows taught m next id a b f (Stamps client clock stamp writes reading c n e) = subst (AttemptGrows a) (sym e)
     (record { same_id = refl; same_epoch = refl; same_replica = refl; same_unread = refl; txn = λ t k. absurd (none_some a.txn t (f.unstamped reading) k); stopped = λ k. k; proposed = λ o k. k; learned = λ o k. k; no_more = λ _. refl; votes = λ r v k. k })
-change_grows taught m id a b f (RulesFast o none is e) = subst (AttemptGrows a) (sym e)
+change_grows taught m next id a b f (RulesFast o none is e l) = subst (AttemptGrows a) (sym e)
     (record { same_id = refl; same_epoch = refl; same_replica = refl; same_unread = refl; txn = λ t k. k; stopped = λ k. k; proposed = λ x k. k; learned = λ x k. absurd (none_some a.coord.learned x none k); no_more = λ _. refl; votes = λ r v k. k })
-change_grows taught m id a b f (RulesLearned o none is e) = subst (AttemptGrows a) (sym e)
+change_grows taught m next id a b f (RulesLearned o none is e) = subst (AttemptGrows a) (sym e)
     (record { same_id = refl; same_epoch = refl; same_replica = refl; same_unread = refl; txn = λ t k. k; stopped = λ k. k; proposed = λ x k. k; learned = λ x k. absurd (none_some a.coord.learned x none k); no_more = λ _. refl; votes = λ r v k. k })
-change_grows taught m id a b f (Proposes o none is e) =
+change_grows taught m next id a b f (Proposes o none is e p) =
     let unproposed = (ruling-propose m.round.faults a.coord o a.coord.learned a.coord.proposed refl refl is).0 in
     subst (AttemptGrows a) (sym e)
     (record { same_id = refl; same_epoch = refl; same_replica = refl; same_unread = refl; txn = λ t k. k; stopped = λ k. k; proposed = λ x k. absurd (none_some a.coord.proposed x unproposed k); learned = λ x k. k; no_more = λ k. absurd (none_there a.coord.learned none k); votes = λ r v k. k })
-change_grows taught m id a b f (Hears msg among same view none e) = subst (AttemptGrows a) (sym e)
+change_grows taught m next id a b f (Hears msg among same view none e) = subst (AttemptGrows a) (sym e)
     (record { same_id = refl; same_epoch = refl; same_replica = refl; same_unread = refl; txn = λ t k. k; stopped = λ k. k;
       proposed = λ x k. answered_proposed msg.replica msg.body a.coord ∙ k; learned = λ x k. absurd (none_some a.coord.learned x none k);
       no_more = λ _. answered_proposed msg.replica msg.body a.coord; votes = λ r v k. answered_votes msg.replica msg.body a.coord r v k })
-change_grows taught m id a b f (Stops e) = subst (AttemptGrows a) (sym e) (record { same_id = refl; same_epoch = refl; same_replica = refl; same_unread = refl; txn = λ t k. k; stopped = λ _. refl; proposed = λ o k. k; learned = λ o k. k; no_more = λ _. refl; votes = λ r v k. k })
+change_grows taught m next id a b f (Stops e) = subst (AttemptGrows a) (sym e) (record { same_id = refl; same_epoch = refl; same_replica = refl; same_unread = refl; txn = λ t k. k; stopped = λ _. refl; proposed = λ o k. k; learned = λ o k. k; no_more = λ _. refl; votes = λ r v k. k })
 
 -- ---- takeovers
 
@@ -106,12 +106,12 @@ answered_state r (ToldBody told) t o = (λ e. e, or_kept t.learned told.last o)
 answered_state r (MovedBody moved) t o = (λ e. e, or_kept t.learned (moved_outcome moved) o)
 answered_state r _ t o = (λ e. e, λ e. e)
 
-takeover_grows : (m : Moment) (id : TxnId) (view : ℕ) (a b : TakeoverOf) → TakeoverChange m id view a b → TakeoverGrows a b
-takeover_grows m id view a b (Picks o is e) =
+takeover_grows : (m : Moment) (next : ColumnState) (id : TxnId) (view : ℕ) (a b : TakeoverOf) → TakeoverChange m next id view a b → TakeoverGrows a b
+takeover_grows m next id view a b (Picks o is e p) =
     let unproposed = (pick-propose m.round.faults a.state o a.state.learned a.state.proposed refl refl is).0 in
     subst (TakeoverGrows a) (sym e) (record { closed = λ k. k; proposed = λ x k. absurd (none_some a.state.proposed x unproposed k); learned = λ x k. k })
-takeover_grows m id view a b (Closes e) = subst (TakeoverGrows a) (sym e) (record { closed = λ _. refl; proposed = λ x k. k; learned = λ x k. k })
-takeover_grows m id view a b (TakeoverHears msg among same v e) =
+takeover_grows m next id view a b (Closes e) = subst (TakeoverGrows a) (sym e) (record { closed = λ _. refl; proposed = λ x k. k; learned = λ x k. k })
+takeover_grows m next id view a b (TakeoverHears msg among same v e) =
     subst (TakeoverGrows a) (sym e)
     (either_way (TakeoverGrows a) a.closed a (record a { state = state_answered msg.replica msg.body a.state }) (λ _. TakeoverGrows-same a)
     (λ _. record { closed = λ k. k; proposed = λ x k. (answered_state msg.replica msg.body a.state x).0 k; learned = λ x k. (answered_state msg.replica msg.body a.state x).1 k }))
@@ -201,18 +201,18 @@ module _ (taught : Taught) (m next : Moment) (h : Facts taught m) (moves : Moves
 
   -- ---- all
 
-  attempt_grows : (id : TxnId) (old new : Option AttemptState) → AttemptMove m id old new → (a : AttemptState) → AttemptFacts taught m id a → old ≡ Some a → (b : AttemptState) × (new ≡ Some b) × AttemptGrows a b
+  attempt_grows : (id : TxnId) (old new : Option AttemptState) → AttemptMove m next.column id old new → (a : AttemptState) → AttemptFacts taught m id a → old ≡ Some a → (b : AttemptState) × (new ≡ Some b) × AttemptGrows a b
   attempt_grows id old new (AttemptStays same) a f e = (a, same ∙ e, AttemptGrows-same a)
   attempt_grows id old new (AttemptBegins x none n own coord txn) a f e = absurd (none_some old a none e)
   attempt_grows id old new (AttemptChanges x y is n change) a f e =
       let same = some_same x a (sym is ∙ e) in
-      (y, n, change_grows taught m id a y f (subst (λ (z : AttemptState). AttemptChange m id z y) same change))
+      (y, n, change_grows taught m next.column id a y f (subst (λ (z : AttemptState). AttemptChange m next.column id z y) same change))
 
-  takeover_move_grows : (id : TxnId) (view : ℕ) (old new : Option TakeoverOf) → TakeoverMove m id view old new → (a : TakeoverOf) → old ≡ Some a → (b : TakeoverOf) × (new ≡ Some b) × TakeoverGrows a b
+  takeover_move_grows : (id : TxnId) (view : ℕ) (old new : Option TakeoverOf) → TakeoverMove m next.column id view old new → (a : TakeoverOf) → old ≡ Some a → (b : TakeoverOf) × (new ≡ Some b) × TakeoverGrows a b
   takeover_move_grows id view old new (TakeoverStays same) a e = (a, same ∙ e, TakeoverGrows-same a)
   takeover_move_grows id view old new (TakeoverBegins x none found stamped pos n) a e = absurd (none_some old a none e)
   takeover_move_grows id view old new (TakeoverChanges x y is n change) a e =
-      (y, n, subst (λ (z : TakeoverOf). TakeoverGrows z y) (some_same x a (sym is ∙ e)) (takeover_grows m id view x y change))
+      (y, n, subst (λ (z : TakeoverOf). TakeoverGrows z y) (some_same x a (sym is ∙ e)) (takeover_grows m next.column id view x y change))
 
   pub grows : Grows m next
   grows =

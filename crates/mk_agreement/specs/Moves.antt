@@ -24,7 +24,7 @@ use Rattle.mk_coord.specs.declared.Ruling.TheVariants.{Fast, Propose, Learned}
 use Rattle.mk_coord.specs.Rulings.{ruling, new_coord}
 use Rattle.mk_takeover.specs.declared.Pick.TheVariants.{Known, Learned as PickLearned, Propose as PickPropose}
 use Rattle.mk_takeover.specs.Picks.{pick, new_takeover}
-use Rattle.mk_column.specs.ColumnState.{AttemptState, TakeoverOf, ClientState, Work, Way, Learning, attempt_of, takeover_of, client_of, entries_at}
+use Rattle.mk_column.specs.ColumnState.{ColumnState, AttemptState, TakeoverOf, ClientState, Work, Way, Learning, attempt_of, takeover_of, client_of, entries_at}
 use Rattle.mk_column.specs.ColumnState.Work.{Idle, Fetching, Validating, Finishing}
 use Rattle.mk_column.specs.ColumnState.Way.{ByVotes, ByAccepts, ByPick, ByMoved, ByTelling, ByFinishing}
 use Rattle.mk_column.specs.Replicas.{serves, is_serving, told_of}
@@ -33,45 +33,48 @@ use Rattle.mk_column.specs.Learnings.{learning}
 use Rattle.mk_column.specs.Steps.{with_txn, with_read, proposing, taught as having_learned, closing, takeover_proposing}
 use Rattle.mk_column.specs.Logs.{not_reading}
 use Rattle.mk_agreement.specs.Moments.{Moment, PastEntry}
-use Rattle.mk_agreement.specs.Messages.{Sent, msg_of}
+use Rattle.mk_agreement.specs.Messages.{Sent, Proposed, msg_of}
 
 -- ---- attempts
 
 -- what an attempt becomes
-pub data AttemptChange (m : Moment) (id : TxnId) (a b : AttemptState) : Type 0 where
-  EndsReading : b ≡ not_reading a → AttemptChange m id a b
-  Reads : (replica key : ℕ) (answer : Answer) → m.column.work ≡ Fetching id replica key → b ≡ with_read key answer a → AttemptChange m id a b
+pub data AttemptChange (m : Moment) (next : ColumnState) (id : TxnId) (a b : AttemptState) : Type 0 where
+  EndsReading : b ≡ not_reading a → AttemptChange m next id a b
+  Reads : (replica key : ℕ) (answer : Answer) → m.column.work ≡ Fetching id replica key → b ≡ with_read key answer a → AttemptChange m next id a b
   Stamps : (client : ClientState) (clock : ℕ) (stamp : Stamp) (writes : List WriteItem) → a.reading ≡ true →
       client_of m.column a.id.client ≡ Some client → next_stamp_of client.number client.last_time clock a.reads ≡ Some stamp →
-      b ≡ with_txn stamp writes a → AttemptChange m id a b
-  RulesFast : (outcome : Outcome) → a.coord.learned ≡ None → ruling m.round.faults a.coord ≡ Fast outcome → b ≡ having_learned outcome a → AttemptChange m id a b
-  RulesLearned : (outcome : Outcome) → a.coord.learned ≡ None → ruling m.round.faults a.coord ≡ Learned outcome → b ≡ having_learned outcome a → AttemptChange m id a b
-  Proposes : (outcome : Outcome) → a.coord.learned ≡ None → ruling m.round.faults a.coord ≡ Propose outcome → b ≡ proposing outcome a → AttemptChange m id a b
+      b ≡ with_txn stamp writes a → AttemptChange m next id a b
+  RulesFast : (outcome : Outcome) → a.coord.learned ≡ None → ruling m.round.faults a.coord ≡ Fast outcome → b ≡ having_learned outcome a →
+      Among (learning id ByVotes outcome) next.learned → AttemptChange m next id a b
+  RulesLearned : (outcome : Outcome) → a.coord.learned ≡ None → ruling m.round.faults a.coord ≡ Learned outcome → b ≡ having_learned outcome a → AttemptChange m next id a b
+  Proposes : (outcome : Outcome) → a.coord.learned ≡ None → ruling m.round.faults a.coord ≡ Propose outcome → b ≡ proposing outcome a →
+      Proposed next.link id 0 outcome → AttemptChange m next id a b
   Hears : (msg : Msg) → Among msg m.column.link → msg.id ≡ id → msg.view ≡ 0 → a.coord.learned ≡ None →
-      b ≡ attempt_answered msg.replica msg.body a → AttemptChange m id a b
-  Stops : b ≡ record a { stopped = true } → AttemptChange m id a b
+      b ≡ attempt_answered msg.replica msg.body a → AttemptChange m next id a b
+  Stops : b ≡ record a { stopped = true } → AttemptChange m next id a b
 
 -- an attempt stays, is begun, or changes
-pub data AttemptMove (m : Moment) (id : TxnId) (old new : Option AttemptState) : Type 0 where
-  AttemptStays : new ≡ old → AttemptMove m id old new
-  AttemptBegins : (a : AttemptState) → old ≡ None → new ≡ Some a → a.id ≡ id → a.coord ≡ new_coord m.round.faults → a.txn ≡ None → AttemptMove m id old new
-  AttemptChanges : (a b : AttemptState) → old ≡ Some a → new ≡ Some b → AttemptChange m id a b → AttemptMove m id old new
+pub data AttemptMove (m : Moment) (next : ColumnState) (id : TxnId) (old new : Option AttemptState) : Type 0 where
+  AttemptStays : new ≡ old → AttemptMove m next id old new
+  AttemptBegins : (a : AttemptState) → old ≡ None → new ≡ Some a → a.id ≡ id → a.coord ≡ new_coord m.round.faults → a.txn ≡ None → AttemptMove m next id old new
+  AttemptChanges : (a b : AttemptState) → old ≡ Some a → new ≡ Some b → AttemptChange m next id a b → AttemptMove m next id old new
 
 -- ---- takeovers
 
 -- what a takeover becomes
-pub data TakeoverChange (m : Moment) (id : TxnId) (view : ℕ) (a b : TakeoverOf) : Type 0 where
-  Picks : (outcome : Outcome) → pick m.round.faults a.state ≡ PickPropose outcome → b ≡ takeover_proposing outcome a → TakeoverChange m id view a b
-  Closes : b ≡ closing a → TakeoverChange m id view a b
+pub data TakeoverChange (m : Moment) (next : ColumnState) (id : TxnId) (view : ℕ) (a b : TakeoverOf) : Type 0 where
+  Picks : (outcome : Outcome) → pick m.round.faults a.state ≡ PickPropose outcome → b ≡ takeover_proposing outcome a →
+      Proposed next.link id view outcome → TakeoverChange m next id view a b
+  Closes : b ≡ closing a → TakeoverChange m next id view a b
   TakeoverHears : (msg : Msg) → Among msg m.column.link → msg.id ≡ id → msg.view ≡ view →
-      b ≡ takeover_answered msg.replica msg.body a → TakeoverChange m id view a b
+      b ≡ takeover_answered msg.replica msg.body a → TakeoverChange m next id view a b
 
 -- a takeover stays, is begun, or changes
-pub data TakeoverMove (m : Moment) (id : TxnId) (view : ℕ) (old new : Option TakeoverOf) : Type 0 where
-  TakeoverStays : new ≡ old → TakeoverMove m id view old new
+pub data TakeoverMove (m : Moment) (next : ColumnState) (id : TxnId) (view : ℕ) (old new : Option TakeoverOf) : Type 0 where
+  TakeoverStays : new ≡ old → TakeoverMove m next id view old new
   TakeoverBegins : (a : AttemptState) → old ≡ None → attempt_of m.column id ≡ Some a → is_some a.txn ≡ true → 1 ≤ view →
-      new ≡ Some (record { id = id; closed = false; state = new_takeover m.round.faults view }) → TakeoverMove m id view old new
-  TakeoverChanges : (a b : TakeoverOf) → old ≡ Some a → new ≡ Some b → TakeoverChange m id view a b → TakeoverMove m id view old new
+      new ≡ Some (record { id = id; closed = false; state = new_takeover m.round.faults view }) → TakeoverMove m next id view old new
+  TakeoverChanges : (a b : TakeoverOf) → old ≡ Some a → new ≡ Some b → TakeoverChange m next id view a b → TakeoverMove m next id view old new
 
 -- ---- entries
 
@@ -206,8 +209,8 @@ IsMatched m r id =
 -- what an event does to a moment
 pub record Moves (m next : Moment) : Type 0 where
   pub same_faults : next.round.faults ≡ m.round.faults
-  pub attempts : (id : TxnId) → AttemptMove m id (attempt_of m.column id) (attempt_of next.column id)
-  pub takeovers : (id : TxnId) (view : ℕ) → TakeoverMove m id view (takeover_of m.column id view) (takeover_of next.column id view)
+  pub attempts : (id : TxnId) → AttemptMove m next.column id (attempt_of m.column id) (attempt_of next.column id)
+  pub takeovers : (id : TxnId) (view : ℕ) → TakeoverMove m next.column id view (takeover_of m.column id view) (takeover_of next.column id view)
   pub entries : (r : ℕ) (id : TxnId) → EntryMove m next r id (m.past.entries r id) (next.past.entries r id)
   pub stays_sent : (msg : Msg) → Among msg m.column.link → Among msg next.column.link
   pub messages : (msg : Msg) → Among msg next.column.link → Among msg m.column.link ⊎ (IsStampedIn next msg.id msg.epoch × Newborn m next msg)
