@@ -122,7 +122,7 @@ module _ (f : ℕ) (link : List Msg) (ok : IsOrderly f link) (id : TxnId) where
       (m.0, accept_sent link id v m.0 m.2, (t.0, t.1))
 
   -- what is reported as the highest was proposed in an earlier view
-  highest_proposed : (w : ℕ) (replies : List (Option Told)) → RepliesIn link id w replies → (b : Accepted) → highest (map accepted_in replies) ≡ Some b →
+  pub highest_proposed : (w : ℕ) (replies : List (Option Told)) → RepliesIn link id w replies → (b : Accepted) → highest (map accepted_in replies) ≡ Some b →
       (Proposed link id b.view b.outcome) × (b.view < w)
   highest_proposed w replies h b e =
       let k = highest-member (map accepted_in replies) b e in
@@ -166,7 +166,7 @@ FastCounts f votes o =
     ((fast_of f ≤ count_slots (members f) is_ok_vote votes) × (o ≡ Commit))
     ⊎ ((fast_of f ≤ count_slots (members f) is_abort_vote votes) × ((c : Cause) × (o ≡ Abort c)))
 
-first_refusal-abort : (votes : List (Option Vote)) → (c : Cause) × (first_refusal votes ≡ Abort c)
+pub first_refusal-abort : (votes : List (Option Vote)) → (c : Cause) × (first_refusal votes ≡ Abort c)
 first_refusal-abort [] = (ByTakeover 0, refl)
 first_refusal-abort (Some (VoteAbort conflict) ∷ votes) = (Rattle.mk_txn.specs.declared.Cause.TheVariants.Conflict conflict, refl)
 first_refusal-abort (Some VoteOk ∷ votes) = first_refusal-abort votes
@@ -200,7 +200,7 @@ pub abort_vote-is : (v : Vote) → is_abort_vote v ≡ true → v ≡ VoteOk →
 abort_vote-is VoteOk e h = cc e
 abort_vote-is (VoteAbort c) e h = cc h
 
-ok_promise-votes : (t : Told) → is_ok_promise t ≡ true → passes is_ok_vote t.vote ≡ true
+pub ok_promise-votes : (t : Told) → is_ok_promise t ≡ true → passes is_ok_vote t.vote ≡ true
 ok_promise-votes t e = and_right (is_promise t) (passes is_ok_vote t.vote) e
 
 other_promise-votes : (t : Told) → is_other_promise t ≡ true → passes is_ok_vote t.vote ≡ false

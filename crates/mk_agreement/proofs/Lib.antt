@@ -12,3 +12,4 @@ pub mod Agreed
 pub mod Decisions
 pub mod SortedLearnings
 pub mod Growing
+pub mod Views
