@@ -51,10 +51,10 @@ AttemptGrows-same a =
       votes = λ r v e. e;
     }
 
-none_some : {X : Type 0} (o : Option X) (x : X) → o ≡ None → o ≡ Some x → ⊥
+pub none_some : {X : Type 0} (o : Option X) (x : X) → o ≡ None → o ≡ Some x → ⊥
 none_some o x n s = cc (n, s)
 
-none_there : {X : Type 0} (o : Option X) → o ≡ None → is_some o ≡ true → ⊥
+pub none_there : {X : Type 0} (o : Option X) → o ≡ None → is_some o ≡ true → ⊥
 none_there o n s = let k : is_some o ≡ false = ap is_some n in cc (k, s)
 
 answered_votes : (r : ℕ) (b : Body) (c : CoordState) (q : ℕ) (v : Vote) → slot c.votes q ≡ Some v → slot (coord_answered r b c).votes q ≡ Some v

@@ -13,3 +13,5 @@ pub mod Decisions
 pub mod SortedLearnings
 pub mod Growing
 pub mod Views
+pub mod Stable
+pub mod Kept
