@@ -28,7 +28,7 @@ use Rattle.mk_agreement.specs.Moves.AttemptChange.{EndsReading, Reads, Stamps, R
 use Rattle.mk_agreement.specs.Moves.TakeoverMove.{TakeoverStays, TakeoverBegins, TakeoverChanges}
 use Rattle.mk_agreement.specs.Moves.TakeoverChange.{Picks, Closes, TakeoverHears}
 use Rattle.mk_agreement.specs.Moves.EntryMove.{EntryStays, EntryOpens, EntryVotes, EntryPromises, EntryAccepts, EntryFinishes}
-use Rattle.mk_agreement.specs.Moves.WorkMove.{WorkStays, WorkRests, WorkFetches, WorkValidates, WorkGoesOn, WorkFinishes}
+use Rattle.mk_agreement.specs.Moves.WorkMove.{WorkRests, WorkFetches, WorkValidates, WorkGoesOn, WorkFinishes}
 use Rattle.mk_agreement.specs.Moves.Newborn.{ValidateSent, AskSent, ProposalSent, FastSent, LearnedSent, KnownSent, PickSent, VoteSent, AcceptedSent, FinalToldSent, PromiseSent, MovedSent}
 use Rattle.mk_agreement.specs.Facts.{Facts, AttemptFacts, Grows, AttemptGrows, TakeoverGrows, EntryGrows, IsSealed}
 use Rattle.mk_agreement.proofs.Lookups.{some_same}
@@ -170,7 +170,6 @@ module _ (taught : Taught) (m next : Moment) (h : Facts taught m) (moves : Moves
   still_rests : (r : ℕ) (id : TxnId) (e : PastEntry) → m.past.entries r id ≡ Some e →
       ((txn : Transaction) (epoch : ℕ) (state : ValidationState) → m.column.work ≡ Validating txn r epoch state → txn.id ≡ id → ⊥) →
       WorkMove m next m.column.work next.column.work → (txn : Transaction) (epoch : ℕ) (state : ValidationState) → next.column.work ≡ Validating txn r epoch state → txn.id ≡ id → ⊥
-  still_rests r id e found rest (WorkStays same round) txn epoch state w own = rest txn epoch state (sym same ∙ w) own
   still_rests r id e found rest (WorkRests idle) txn epoch state w own = cc (idle, w)
   still_rests r id e found rest (WorkFetches x q key old new) txn epoch state w own = cc (new, w)
   still_rests r id e found rest (WorkFinishes q left new) txn epoch state w own = cc (new, w)

@@ -39,7 +39,7 @@ use Rattle.mk_agreement.specs.Moves.AttemptChange.{EndsReading, Reads, Stamps, R
 use Rattle.mk_agreement.specs.Moves.TakeoverMove.{TakeoverStays, TakeoverBegins, TakeoverChanges}
 use Rattle.mk_agreement.specs.Moves.TakeoverChange.{Picks, Closes, TakeoverHears}
 use Rattle.mk_agreement.specs.Moves.EntryMove.{EntryStays, EntryOpens, EntryVotes, EntryPromises, EntryAccepts, EntryFinishes}
-use Rattle.mk_agreement.specs.Moves.WorkMove.{WorkStays, WorkRests, WorkFetches, WorkValidates, WorkGoesOn, WorkFinishes}
+use Rattle.mk_agreement.specs.Moves.WorkMove.{WorkRests, WorkFetches, WorkValidates, WorkGoesOn, WorkFinishes}
 use Rattle.mk_agreement.specs.Moves.Newborn.{ValidateSent, AskSent, ProposalSent, FastSent, LearnedSent, KnownSent, PickSent, VoteSent, AcceptedSent, FinalToldSent, PromiseSent, MovedSent}
 use Rattle.mk_agreement.specs.Moves.NewLearning.{LearnsFast, LearnsByAccepts, LearnsKnown, LearnsByPick, LearnsTold, LearnsMoved, LearnsFinishing}
 use Rattle.mk_agreement.specs.Facts.{Facts, AttemptFacts, TakeoverFacts, EntryFacts, FastFacts, RoundFacts, WorkFacts, ToldFacts, IsPromise, AcceptFacts, IsSealed, Says, IsBacked, IsSupported, IsTaught, Grows}
@@ -63,7 +63,7 @@ or_some : (a b : Option Outcome) → is_some a ≡ true → is_some (option_or a
 or_some (Some x) b e = refl
 or_some None b e = absurd (cc e)
 
-or_right : (a : Option Outcome) (b : Outcome) → is_some (option_or a (Some b)) ≡ true
+pub or_right : (a : Option Outcome) (b : Outcome) → is_some (option_or a (Some b)) ≡ true
 or_right (Some x) b = refl
 or_right None b = refl
 
@@ -78,21 +78,21 @@ module _ (taught : Taught) (stays : StaysTaught taught) (m next : Moment) (h : F
   -- ---- what outcomes rest on at the moment before
 
   -- decided at the moment before
-  backed_decided : (id : TxnId) (o : Outcome) → IsDecided m.round.faults m.column id o → IsBacked taught next id o next.past.now
+  pub backed_decided : (id : TxnId) (o : Outcome) → IsDecided m.round.faults m.column id o → IsBacked taught next id o next.past.now
   backed_decided id o d = IsBacked-grows taught stays m next (grows taught m next h moves) id o m.past.now next.past.now moves.rises (inl (d, decided_supported taught m h id o d))
 
-  backed_later : (id : TxnId) (o : Outcome) → IsBacked taught m id o m.past.now → IsBacked taught next id o next.past.now
+  pub backed_later : (id : TxnId) (o : Outcome) → IsBacked taught m id o m.past.now → IsBacked taught next id o next.past.now
   backed_later id o k = IsBacked-grows taught stays m next (grows taught m next h moves) id o m.past.now next.past.now moves.rises k
 
   -- by accepts of the own proposal
-  learned_backed : (id : TxnId) (a : AttemptState) (o : Outcome) → attempt_of m.column id ≡ Some a → a.coord.learned ≡ None → ruling m.round.faults a.coord ≡ Learned o → IsBacked taught next id o next.past.now
+  pub learned_backed : (id : TxnId) (a : AttemptState) (o : Outcome) → attempt_of m.column id ≡ Some a → a.coord.learned ≡ None → ruling m.round.faults a.coord ≡ Learned o → IsBacked taught next id o next.past.now
   learned_backed id a o e none is =
       let f = h.attempts id a e in
       let k = ruling-learned m.round.faults a.coord o a.coord.proposed none refl is in
       backed_decided id o (inr (0, ((f.proposed o k.0).0, accepts_chosen m.round.faults m.column.link id 0 a.coord.accepts f.accepts k.1)))
 
   -- by a fast ruling
-  fast_backed : (id : TxnId) (a : AttemptState) (o : Outcome) → attempt_of m.column id ≡ Some a → ruling m.round.faults a.coord ≡ Fast o → Among (learning id ByVotes o) next.column.learned →
+  pub fast_backed : (id : TxnId) (a : AttemptState) (o : Outcome) → attempt_of m.column id ≡ Some a → ruling m.round.faults a.coord ≡ Fast o → Among (learning id ByVotes o) next.column.learned →
       IsBacked taught next id o next.past.now
   fast_backed id a o e is among =
       let f = h.attempts id a e in
@@ -101,18 +101,18 @@ module _ (taught : Taught) (stays : StaysTaught taught) (m next : Moment) (h : F
       (fast_supported taught m h id a.coord.votes o f.votes k.1 c))
 
   -- by a pick
-  known_backed : (id : TxnId) (v : ℕ) (t : TakeoverOf) (o : Outcome) → takeover_of m.column id v ≡ Some t → pick m.round.faults t.state ≡ Known o → IsBacked taught next id o next.past.now
+  pub known_backed : (id : TxnId) (v : ℕ) (t : TakeoverOf) (o : Outcome) → takeover_of m.column id v ≡ Some t → pick m.round.faults t.state ≡ Known o → IsBacked taught next id o next.past.now
   known_backed id v t o e is =
       backed_later id o ((h.takeovers id v t e).learned o (pick-known m.round.faults t.state o t.state.learned t.state.proposed refl refl is))
 
-  picked_backed : (id : TxnId) (v : ℕ) (t : TakeoverOf) (o : Outcome) → takeover_of m.column id v ≡ Some t → pick m.round.faults t.state ≡ PickLearned o → IsBacked taught next id o next.past.now
+  pub picked_backed : (id : TxnId) (v : ℕ) (t : TakeoverOf) (o : Outcome) → takeover_of m.column id v ≡ Some t → pick m.round.faults t.state ≡ PickLearned o → IsBacked taught next id o next.past.now
   picked_backed id v t o e is =
       let f = h.takeovers id v t e in
       let k = pick-learned m.round.faults t.state o t.state.learned t.state.proposed refl refl is in
       backed_decided id o (inr (v, ((f.proposed o k.0).0, accepts_chosen m.round.faults m.column.link id v t.state.accepts f.accepts k.1)))
 
   -- by being told
-  told_backed : (id : TxnId) (r v : ℕ) (t : Told) (o : Outcome) → Sent m.column.link id r v (ToldBody t) → t.last ≡ Some o → IsBacked taught next id o next.past.now
+  pub told_backed : (id : TxnId) (r v : ℕ) (t : Told) (o : Outcome) → Sent m.column.link id r v (ToldBody t) → t.last ≡ Some o → IsBacked taught next id o next.past.now
   told_backed id r v t o s e =
       let f = told_says taught m h id r v t s in
       let x = f.final o e in
@@ -120,13 +120,13 @@ module _ (taught : Taught) (stays : StaysTaught taught) (m next : Moment) (h : F
       IsBacked-grows taught stays m next (grows taught m next h moves) id o x.0 next.past.now (omega (arith, k.0, moves.rises)) k.1
 
   -- by a later epoch
-  moved_backed : (id : TxnId) (r v : ℕ) (moved : Moved) (o : Outcome) → Sent m.column.link id r v (MovedBody moved) → moved_outcome moved ≡ Some o → IsBacked taught next id o next.past.now
+  pub moved_backed : (id : TxnId) (r v : ℕ) (moved : Moved) (o : Outcome) → Sent m.column.link id r v (MovedBody moved) → moved_outcome moved ≡ Some o → IsBacked taught next id o next.past.now
   moved_backed id r v moved o s e =
       let k = h.messages (msg_of s.0 id r v (MovedBody moved)) s.1 in
       backed_later id o (inr (k.0.attempt, k.0.found, subst (λ (n : ℕ). taught id n o m.past.now ≡ true) (sym k.0.same_epoch) (k.1 o e)))
 
   -- by a Decide
-  decide_backed : (id : TxnId) (r v : ℕ) (o : Outcome) → Sent m.column.link id r v (Decide o) → IsBacked taught m id o m.past.now
+  pub decide_backed : (id : TxnId) (r v : ℕ) (o : Outcome) → Sent m.column.link id r v (Decide o) → IsBacked taught m id o m.past.now
   decide_backed id r v o s = (h.messages (msg_of s.0 id r v (Decide o)) s.1).1
 
   -- ---- attempts
@@ -206,7 +206,7 @@ module _ (taught : Taught) (stays : StaysTaught taught) (m next : Moment) (h : F
           learned = λ o e. absurd (none_some a.coord.learned o (ap (λ (c : CoordState). c.learned) coord) e);
         }
 
-    attempt_facts : (new : Option AttemptState) → AttemptMove m next.column id (attempt_of m.column id) new → (b : AttemptState) → new ≡ Some b → AttemptFacts taught next id b
+    pub attempt_facts : (new : Option AttemptState) → AttemptMove m next.column id (attempt_of m.column id) new → (b : AttemptState) → new ≡ Some b → AttemptFacts taught next id b
     attempt_facts new (AttemptStays same) b e = AttemptFacts-grows taught stays m next (grows taught m next h moves) id b (h.attempts id b (sym same ∙ e))
     attempt_facts new (AttemptBegins a none n own coord txn) b e = subst (AttemptFacts taught next id) (some_same a b (sym n ∙ e)) (empty_facts a own coord txn)
     attempt_facts new (AttemptChanges x y is n change) b e =
@@ -308,7 +308,7 @@ module _ (taught : Taught) (stays : StaysTaught taught) (m next : Moment) (h : F
           learned = λ o e. absurd (cc e);
         }
 
-    takeover_facts : (new : Option TakeoverOf) → TakeoverMove m next.column id v (takeover_of m.column id v) new → (b : TakeoverOf) → new ≡ Some b → TakeoverFacts taught next id v b
+    pub takeover_facts : (new : Option TakeoverOf) → TakeoverMove m next.column id v (takeover_of m.column id v) new → (b : TakeoverOf) → new ≡ Some b → TakeoverFacts taught next id v b
     takeover_facts new (TakeoverStays same) b e = TakeoverFacts-grows taught stays m next (grows taught m next h moves) id v b (h.takeovers id v b (sym same ∙ e))
     takeover_facts new (TakeoverBegins a none found stamped pos n) b e = subst (TakeoverFacts taught next id v) (some_same _ b (sym n ∙ e)) (begun_facts a found stamped pos)
     takeover_facts new (TakeoverChanges x y is n change) b e =

@@ -15,3 +15,5 @@ pub mod Growing
 pub mod Views
 pub mod Stable
 pub mod Kept
+pub mod KeptAll
+pub mod Rounds

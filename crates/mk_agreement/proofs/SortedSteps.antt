@@ -44,7 +44,7 @@ use Rattle.mk_agreement.specs.Messages.{msg_of}
 use Rattle.mk_agreement.specs.Moves.{EntryMove, Newborn, WorkMove, NewLearning, IsStampedIn}
 use Rattle.mk_agreement.specs.Moves.EntryMove.{EntryStays}
 use Rattle.mk_agreement.specs.Moves.Newborn.{ValidateSent, AskSent, ProposalSent, FastSent, LearnedSent, KnownSent, PickSent}
-use Rattle.mk_agreement.specs.Moves.WorkMove.{WorkStays, WorkRests, WorkFetches, WorkGoesOn, WorkFinishes}
+use Rattle.mk_agreement.specs.Moves.WorkMove.{WorkRests, WorkFetches, WorkGoesOn, WorkFinishes}
 use Rattle.mk_agreement.specs.Moves.NewLearning.{LearnsFast, LearnsByAccepts, LearnsKnown, LearnsByPick, LearnsTold, LearnsMoved, LearnsFinishing}
 use Rattle.mk_agreement.specs.Facts.{Facts}
 use Rattle.mk_agreement.proofs.Lookups.{same_id-itself, same_id-tells, and_right, some_same, there, none_from, and_left, find-change, find-pushed}
@@ -97,104 +97,106 @@ module _ (taught : Taught) (m : Moment) (h : Facts taught m) (step : Step) where
         sized = ap length records;
       }
 
-  stays : StepSorted m.column
-  stays = untouched m.column refl refl (WorkStays refl refl)
+  -- no key call is under way
+  module _ (idle : m.column.work ≡ Idle) where
+    stays : StepSorted m.column
+    stays = untouched m.column refl refl (WorkRests idle)
 
-  -- messages are sent to all
-  sends_all : (c : ColumnState) (ep : ℕ) (id : TxnId) (v : ℕ) (b : Body) → c.records ≡ m.column.records → c.link ≡ m.column.link ++ to_all m.round.faults ep id v b → c.work ≡ m.column.work →
-      IsStampedIn (moment_with m step c) id ep → ((r : ℕ) → Newborn m (moment_with m step c) (msg_of ep id r v b)) → StepSorted c
-  sends_all c ep id v b records link work stamped_in newborn =
-      record {
-        entries = λ r x. entry_untouched taught m h step c r x (ap (λ (l : List (List Entry)). entry_of x (slice_index_or l r [])) records);
-        link = to_all m.round.faults ep id v b;
-        grows = link;
-        messages = λ msg a.
-            let k = among_all m.round.faults ep id v b msg a in
-            subst (λ (x : Msg). (x.replica < members m.round.faults) × IsStampedIn (moment_with m step c) x.id x.epoch × Newborn m (moment_with m step c) x) k.2 (k.1, stamped_in, newborn k.0);
-        work = WorkStays work refl;
-        sized = ap length records;
-      }
+    -- messages are sent to all
+    sends_all : (c : ColumnState) (ep : ℕ) (id : TxnId) (v : ℕ) (b : Body) → c.records ≡ m.column.records → c.link ≡ m.column.link ++ to_all m.round.faults ep id v b → c.work ≡ m.column.work →
+        IsStampedIn (moment_with m step c) id ep → ((r : ℕ) → Newborn m (moment_with m step c) (msg_of ep id r v b)) → StepSorted c
+    sends_all c ep id v b records link work stamped_in newborn =
+        record {
+          entries = λ r x. entry_untouched taught m h step c r x (ap (λ (l : List (List Entry)). entry_of x (slice_index_or l r [])) records);
+          link = to_all m.round.faults ep id v b;
+          grows = link;
+          messages = λ msg a.
+              let k = among_all m.round.faults ep id v b msg a in
+              subst (λ (x : Msg). (x.replica < members m.round.faults) × IsStampedIn (moment_with m step c) x.id x.epoch × Newborn m (moment_with m step c) x) k.2 (k.1, stamped_in, newborn k.0);
+          work = WorkRests (work ∙ idle);
+          sized = ap length records;
+        }
 
-  stamping_sorted : (id : TxnId) (writes : List WriteItem) (s : Option StampType) → StepSorted (stamped id writes s m.column)
-  stamping_sorted id writes None = stays
-  stamping_sorted id writes (Some stamp) = untouched (stamped id writes (Some stamp) m.column) refl refl (WorkStays refl refl)
+    stamping_sorted : (id : TxnId) (writes : List WriteItem) (s : Option StampType) → StepSorted (stamped id writes s m.column)
+    stamping_sorted id writes None = stays
+    stamping_sorted id writes (Some stamp) = untouched (stamped id writes (Some stamp) m.column) refl refl (WorkRests idle)
 
-  -- an attempt that changes in place is found where it was
-  changed_attempt : (a : AttemptState) (g : AttemptState → AttemptState) → ((x : AttemptState) → (g x).id ≡ x.id) → attempt_of m.column a.id ≡ Some a →
-      find (is_attempt a.id) (change (is_attempt a.id) g m.column.attempts) ≡ Some (g a)
-  changed_attempt a g same e =
-      find-change (is_attempt a.id) g m.column.attempts (λ x. ap (λ (y : TxnId). same_id y a.id) (same x)) ∙ ap (option_map g) e
+    -- an attempt that changes in place is found where it was
+    changed_attempt : (a : AttemptState) (g : AttemptState → AttemptState) → ((x : AttemptState) → (g x).id ≡ x.id) → attempt_of m.column a.id ≡ Some a →
+        find (is_attempt a.id) (change (is_attempt a.id) g m.column.attempts) ≡ Some (g a)
+    changed_attempt a g same e =
+        find-change (is_attempt a.id) g m.column.attempts (λ x. ap (λ (y : TxnId). same_id y a.id) (same x)) ∙ ap (option_map g) e
 
-  ruled_sorted : (a : AttemptState) (r : Ruling) → attempt_of m.column a.id ≡ Some a → is_some a.txn ≡ true → a.coord.learned ≡ None → ruling m.round.faults a.coord ≡ r →
-      ((o : Outcome) → r ≡ Fast o → Among (learning a.id ByVotes o) (m.column.learned ++ learned_in_step m.round m.column step)) →
-      StepSorted (ruled m.round.faults a r m.column)
-  ruled_sorted a (Fast o) e txn none is learned =
-      sends_all (ruled m.round.faults a (Fast o) m.column) a.epoch a.id 0 (Decide o) refl refl refl
-      (record { attempt = having_learned o a; found = changed_attempt a (having_learned o) (λ _. refl) e; stamped = txn; same_epoch = refl })
-      (λ r. FastSent o a refl e none is (learned o refl))
-  ruled_sorted a (Learned o) e txn none is learned =
-      sends_all (ruled m.round.faults a (Learned o) m.column) a.epoch a.id 0 (Decide o) refl refl refl
-      (record { attempt = having_learned o a; found = changed_attempt a (having_learned o) (λ _. refl) e; stamped = txn; same_epoch = refl })
-      (λ r. LearnedSent o a refl e none is)
-  ruled_sorted a (Propose o) e txn none is learned =
-      let found = changed_attempt a (proposing o) (λ _. refl) e in
-      sends_all (ruled m.round.faults a (Propose o) m.column) a.epoch a.id 0 (Accept o) refl refl refl
-      (record { attempt = proposing o a; found = found; stamped = txn; same_epoch = refl })
-      (λ r. ProposalSent o refl (inl (refl, (proposing o a, found, refl))))
-  ruled_sorted a (Short k) e txn none is learned = stays
-  ruled_sorted a (Unaccepted k) e txn none is learned = stays
+    ruled_sorted : (a : AttemptState) (r : Ruling) → attempt_of m.column a.id ≡ Some a → is_some a.txn ≡ true → a.coord.learned ≡ None → ruling m.round.faults a.coord ≡ r →
+        ((o : Outcome) → r ≡ Fast o → Among (learning a.id ByVotes o) (m.column.learned ++ learned_in_step m.round m.column step)) →
+        StepSorted (ruled m.round.faults a r m.column)
+    ruled_sorted a (Fast o) e txn none is learned =
+        sends_all (ruled m.round.faults a (Fast o) m.column) a.epoch a.id 0 (Decide o) refl refl refl
+        (record { attempt = having_learned o a; found = changed_attempt a (having_learned o) (λ _. refl) e; stamped = txn; same_epoch = refl })
+        (λ r. FastSent o a refl e none is (learned o refl))
+    ruled_sorted a (Learned o) e txn none is learned =
+        sends_all (ruled m.round.faults a (Learned o) m.column) a.epoch a.id 0 (Decide o) refl refl refl
+        (record { attempt = having_learned o a; found = changed_attempt a (having_learned o) (λ _. refl) e; stamped = txn; same_epoch = refl })
+        (λ r. LearnedSent o a refl e none is)
+    ruled_sorted a (Propose o) e txn none is learned =
+        let found = changed_attempt a (proposing o) (λ _. refl) e in
+        sends_all (ruled m.round.faults a (Propose o) m.column) a.epoch a.id 0 (Accept o) refl refl refl
+        (record { attempt = proposing o a; found = found; stamped = txn; same_epoch = refl })
+        (λ r. ProposalSent o refl (inl (refl, (proposing o a, found, refl))))
+    ruled_sorted a (Short k) e txn none is learned = stays
+    ruled_sorted a (Unaccepted k) e txn none is learned = stays
 
-  again_sorted : (a : AttemptState) (o : Outcome) → attempt_of m.column a.id ≡ Some a → is_some a.txn ≡ true → a.coord.proposed ≡ Some o →
-      StepSorted (send (to_all m.round.faults a.epoch a.id 0 (Accept o)) m.column)
-  again_sorted a o e txn is =
-      sends_all (send (to_all m.round.faults a.epoch a.id 0 (Accept o)) m.column) a.epoch a.id 0 (Accept o) refl refl refl
-      (record { attempt = a; found = e; stamped = txn; same_epoch = refl })
-      (λ r. ProposalSent o refl (inl (refl, (a, e, is))))
+    again_sorted : (a : AttemptState) (o : Outcome) → attempt_of m.column a.id ≡ Some a → is_some a.txn ≡ true → a.coord.proposed ≡ Some o →
+        StepSorted (send (to_all m.round.faults a.epoch a.id 0 (Accept o)) m.column)
+    again_sorted a o e txn is =
+        sends_all (send (to_all m.round.faults a.epoch a.id 0 (Accept o)) m.column) a.epoch a.id 0 (Accept o) refl refl refl
+        (record { attempt = a; found = e; stamped = txn; same_epoch = refl })
+        (λ r. ProposalSent o refl (inl (refl, (a, e, is))))
 
-  begins_takeover : (a : AttemptState) (view : ℕ) → attempt_of m.column a.id ≡ Some a → is_some a.txn ≡ true → 1 ≤ view → takeover_of m.column a.id view ≡ None →
-      StepSorted (taken_over m.round.faults view a m.column)
-  begins_takeover a view e txn from_one none =
-      let new : TakeoverOf = record { id = a.id; closed = false; state = new_takeover m.round.faults view } in
-      let passes : is_takeover a.id view new ≡ true = (let k = same_id-itself a.id in grind (arith, nat_tests, k)) in
-      sends_all (taken_over m.round.faults view a m.column) a.epoch a.id view Ask refl refl refl
-      (record { attempt = a; found = e; stamped = txn; same_epoch = refl })
-      (λ r. AskSent new refl from_one (find-pushed (is_takeover a.id view) m.column.takeovers new none passes))
+    begins_takeover : (a : AttemptState) (view : ℕ) → attempt_of m.column a.id ≡ Some a → is_some a.txn ≡ true → 1 ≤ view → takeover_of m.column a.id view ≡ None →
+        StepSorted (taken_over m.round.faults view a m.column)
+    begins_takeover a view e txn from_one none =
+        let new : TakeoverOf = record { id = a.id; closed = false; state = new_takeover m.round.faults view } in
+        let passes : is_takeover a.id view new ≡ true = (let k = same_id-itself a.id in grind (arith, nat_tests, k)) in
+        sends_all (taken_over m.round.faults view a m.column) a.epoch a.id view Ask refl refl refl
+        (record { attempt = a; found = e; stamped = txn; same_epoch = refl })
+        (λ r. AskSent new refl from_one (find-pushed (is_takeover a.id view) m.column.takeovers new none passes))
 
-  changed_takeover : (id : TxnId) (view : ℕ) (t : TakeoverOf) (g : TakeoverOf → TakeoverOf) → ((x : TakeoverOf) → is_takeover id view (g x) ≡ is_takeover id view x) → takeover_of m.column id view ≡ Some t →
-      find (is_takeover id view) (change (is_takeover id view) g m.column.takeovers) ≡ Some (g t)
-  changed_takeover id view t g same e = find-change (is_takeover id view) g m.column.takeovers same ∙ ap (option_map g) e
+    changed_takeover : (id : TxnId) (view : ℕ) (t : TakeoverOf) (g : TakeoverOf → TakeoverOf) → ((x : TakeoverOf) → is_takeover id view (g x) ≡ is_takeover id view x) → takeover_of m.column id view ≡ Some t →
+        find (is_takeover id view) (change (is_takeover id view) g m.column.takeovers) ≡ Some (g t)
+    changed_takeover id view t g same e = find-change (is_takeover id view) g m.column.takeovers same ∙ ap (option_map g) e
 
-  picked_sorted : (view : ℕ) (a : AttemptState) (t : TakeoverOf) (p : Pick) → attempt_of m.column a.id ≡ Some a → is_some a.txn ≡ true → 1 ≤ view →
-      takeover_of m.column a.id view ≡ Some t → pick m.round.faults t.state ≡ p → StepSorted (picked m.round.faults view a p m.column)
-  picked_sorted view a t (Known o) e txn from_one found is =
-      sends_all (picked m.round.faults view a (Known o) m.column) a.epoch a.id view (Decide o) refl refl refl
-      (record { attempt = a; found = e; stamped = txn; same_epoch = refl }) (λ r. KnownSent o t refl found is)
-  picked_sorted view a t (PickLearned o) e txn from_one found is =
-      sends_all (picked m.round.faults view a (PickLearned o) m.column) a.epoch a.id view (Decide o) refl refl refl
-      (record { attempt = a; found = e; stamped = txn; same_epoch = refl }) (λ r. PickSent o t refl found is)
-  picked_sorted view a t (PickPropose o) e txn from_one found is =
-      sends_all (picked m.round.faults view a (PickPropose o) m.column) a.epoch a.id view (Accept o) refl refl refl
-      (record { attempt = a; found = e; stamped = txn; same_epoch = refl })
-      (λ r. ProposalSent o refl (inr (from_one, (takeover_proposing o t, changed_takeover a.id view t (takeover_proposing o) (λ _. refl) found, refl))))
-  picked_sorted view a t (PickShort k) e txn from_one found is = stays
-  picked_sorted view a t (PickUnaccepted k) e txn from_one found is = stays
-  picked_sorted view a t (Unclear x y) e txn from_one found is = stays
+    picked_sorted : (view : ℕ) (a : AttemptState) (t : TakeoverOf) (p : Pick) → attempt_of m.column a.id ≡ Some a → is_some a.txn ≡ true → 1 ≤ view →
+        takeover_of m.column a.id view ≡ Some t → pick m.round.faults t.state ≡ p → StepSorted (picked m.round.faults view a p m.column)
+    picked_sorted view a t (Known o) e txn from_one found is =
+        sends_all (picked m.round.faults view a (Known o) m.column) a.epoch a.id view (Decide o) refl refl refl
+        (record { attempt = a; found = e; stamped = txn; same_epoch = refl }) (λ r. KnownSent o t refl found is)
+    picked_sorted view a t (PickLearned o) e txn from_one found is =
+        sends_all (picked m.round.faults view a (PickLearned o) m.column) a.epoch a.id view (Decide o) refl refl refl
+        (record { attempt = a; found = e; stamped = txn; same_epoch = refl }) (λ r. PickSent o t refl found is)
+    picked_sorted view a t (PickPropose o) e txn from_one found is =
+        sends_all (picked m.round.faults view a (PickPropose o) m.column) a.epoch a.id view (Accept o) refl refl refl
+        (record { attempt = a; found = e; stamped = txn; same_epoch = refl })
+        (λ r. ProposalSent o refl (inr (from_one, (takeover_proposing o t, changed_takeover a.id view t (takeover_proposing o) (λ _. refl) found, refl))))
+    picked_sorted view a t (PickShort k) e txn from_one found is = stays
+    picked_sorted view a t (PickUnaccepted k) e txn from_one found is = stays
+    picked_sorted view a t (Unclear x y) e txn from_one found is = stays
 
-  taken_sorted : (msg : Msg) → Among msg m.column.link → m.column.work ≡ Idle → StepSorted (taken m.round msg m.column)
-  taken_sorted msg among idle =
-      either_way StepSorted (goes_to_replica msg.body) _ _
-      (λ _. on_some-keeps StepSorted (replica_takes m.round msg) (txn_of m.column msg.id) m.column
-      (λ txn e. record {
-        entries = replica_sorted taught m h step msg among txn e idle;
-        link = _;
-        grows = refl;
-        messages = replica_sends taught m h step msg among txn e idle;
-        work = replica_works taught m h step msg among txn e idle;
-        sized = length-set m.column.records msg.replica _;
-      }) stays)
-      (λ _. either_way StepSorted (msg.view == 0) _ _
-      (λ _. either_way StepSorted (listens (attempt_of m.column msg.id)) _ _ (λ _. untouched _ refl refl (WorkStays refl refl)) (λ _. stays))
-      (λ _. either_way StepSorted (is_led m.round msg.epoch msg.view) _ _ (λ _. untouched _ refl refl (WorkStays refl refl)) (λ _. stays)))
+    taken_sorted : (msg : Msg) → Among msg m.column.link → StepSorted (taken m.round msg m.column)
+    taken_sorted msg among =
+        either_way StepSorted (goes_to_replica msg.body) _ _
+        (λ _. on_some-keeps StepSorted (replica_takes m.round msg) (txn_of m.column msg.id) m.column
+        (λ txn e. record {
+          entries = replica_sorted taught m h step msg among txn e idle;
+          link = _;
+          grows = refl;
+          messages = replica_sends taught m h step msg among txn e idle;
+          work = replica_works taught m h step msg among txn e idle;
+          sized = length-set m.column.records msg.replica _;
+        }) stays)
+        (λ _. either_way StepSorted (msg.view == 0) _ _
+        (λ _. either_way StepSorted (listens (attempt_of m.column msg.id)) _ _ (λ _. untouched _ refl refl (WorkRests idle)) (λ _. stays))
+        (λ _. either_way StepSorted (is_led m.round msg.epoch msg.view) _ _ (λ _. untouched _ refl refl (WorkRests idle)) (λ _. stays)))
 
   validating_sorted : (answer : Answer) (txn : Transaction) (r ep : ℕ) (state : ValidationState) (next : Option KeyAct) → m.column.work ≡ Validating txn r ep state →
       next_act (after_answer state answer) ≡ next → StepSorted (validated txn r ep (after_answer state answer) next m.column)
@@ -222,7 +224,7 @@ module _ (taught : Taught) (m : Moment) (h : Facts taught m) (step : Step) where
   finishing_sorted r (act ∷ acts) = untouched _ refl refl (WorkFinishes r (act ∷ acts) refl)
 
   answered_sorted : (answer : Answer) (work : Work) → m.column.work ≡ work → StepSorted (answered answer work m.column)
-  answered_sorted answer Idle e = stays
+  answered_sorted answer Idle e = untouched m.column refl refl (WorkRests e)
   answered_sorted answer (Fetching id replica key) e = untouched _ refl refl (WorkRests refl)
   answered_sorted answer (Validating txn replica epoch state) e = validating_sorted answer txn replica epoch state (next_act (after_answer state answer)) e refl
   answered_sorted answer (Finishing replica []) e = untouched _ refl refl (WorkRests refl)
@@ -254,52 +256,52 @@ module _ (taught : Taught) (m : Moment) (h : Facts taught m) where
   pub steps_sorted : (step : Step) → AllTrue (conditions m.round m.column step) → StepSorted taught m h step (stepped m.round m.column step)
   steps_sorted (Begin client replica) c =
       let step = Begin client replica in
-      on_some-keeps (StepSorted taught m h step) _ (client_of m.column client) m.column (λ d _. untouched taught m h step _ refl refl (WorkStays refl refl)) (stays taught m h step)
+      on_some-keeps (StepSorted taught m h step) _ (client_of m.column client) m.column (λ d _. untouched taught m h step _ refl refl (WorkRests (idle_from m.column.work c.0))) (stays taught m h step (idle_from m.column.work c.0))
   steps_sorted (Unread client) c =
       let step = Unread client in
-      on_some-keeps (StepSorted taught m h step) _ (client_of m.column client) m.column (λ d _. untouched taught m h step _ refl refl (WorkStays refl refl)) (stays taught m h step)
+      on_some-keeps (StepSorted taught m h step) _ (client_of m.column client) m.column (λ d _. untouched taught m h step _ refl refl (WorkRests (idle_from m.column.work c.0))) (stays taught m h step (idle_from m.column.work c.0))
   steps_sorted (Read id key) c =
       let step = Read id key in
       on_some-keeps (StepSorted taught m h step) _ (attempt_of m.column id) m.column
-      (λ a _. untouched taught m h step _ refl refl (WorkFetches id a.replica key (idle_from m.column.work c.0) refl)) (stays taught m h step)
+      (λ a _. untouched taught m h step _ refl refl (WorkFetches id a.replica key (idle_from m.column.work c.0) refl)) (stays taught m h step (idle_from m.column.work c.0))
   steps_sorted (Stamp id clock writes) c =
       let step = Stamp id clock writes in
       on_some-keeps (StepSorted taught m h step) _ (attempt_of m.column id) m.column
       (λ a e. on_some-keeps (StepSorted taught m h step) _ (client_of m.column a.id.client) m.column
-      (λ d _. stamping_sorted taught m h step a.id writes (next_stamp_of d.number d.last_time clock a.reads)) (stays taught m h step)) (stays taught m h step)
+      (λ d _. stamping_sorted taught m h step (idle_from m.column.work c.0) a.id writes (next_stamp_of d.number d.last_time clock a.reads)) (stays taught m h step (idle_from m.column.work c.0))) (stays taught m h step (idle_from m.column.work c.0))
   steps_sorted (Validate id) c =
       let step = Validate id in
       on_some-keeps (StepSorted taught m h step) _ (attempt_of m.column id) m.column
-      (λ a e. sends_all taught m h step _ a.epoch id 0 (ValidateBody (mark_sent m.round m.column id.client)) refl refl refl
+      (λ a e. sends_all taught m h step (idle_from m.column.work c.0) _ a.epoch id 0 (ValidateBody (mark_sent m.round m.column id.client)) refl refl refl
       (record { attempt = a; found = e; stamped = there (λ (x : AttemptState). is_some x.txn) (attempt_of m.column id) a e c.1.0; same_epoch = refl })
-      (λ r. ValidateSent (mark_sent m.round m.column id.client) refl)) (stays taught m h step)
+      (λ r. ValidateSent (mark_sent m.round m.column id.client) refl)) (stays taught m h step (idle_from m.column.work c.0))
   steps_sorted (Take number) c =
       let step = Take number in
       on_some-keeps (StepSorted taught m h step) _ (message m.column.link number) m.column
-      (λ msg e. taken_sorted taught m h step msg (message_among m.column.link number msg e) (idle_from m.column.work c.0)) (stays taught m h step)
+      (λ msg e. taken_sorted taught m h step (idle_from m.column.work c.0) msg (message_among m.column.link number msg e)) (stays taught m h step (idle_from m.column.work c.0))
   steps_sorted (Key call answer) c = answered_sorted taught m h (Key call answer) answer m.column.work refl
   steps_sorted (Rule id) c =
       let step = Rule id in
       on_some-keeps (StepSorted taught m h step) _ (attempt_of m.column id) m.column
-      (λ a e. ruled_sorted taught m h step a (ruling m.round.faults a.coord) (own_number m.column id a e)
+      (λ a e. ruled_sorted taught m h step (idle_from m.column.work c.0) a (ruling m.round.faults a.coord) (own_number m.column id a e)
       (there (λ (x : AttemptState). is_some x.txn) (attempt_of m.column id) a e c.1.0)
       (none_from a.coord.learned (there (λ (x : AttemptState). is_none x.coord.learned) (attempt_of m.column id) a e c.1.1.1.0)) refl
       (λ o fast. Among-append_right (learning a.id ByVotes o) m.column.learned (by_rule m.round id (attempt_of m.column id))
-      (nothing_learned taught m h step a (ruling m.round.faults a.coord) o refl fast id e (attempt_id m.column id a e)))) (stays taught m h step)
+      (nothing_learned taught m h step a (ruling m.round.faults a.coord) o refl fast id e (attempt_id m.column id a e)))) (stays taught m h step (idle_from m.column.work c.0))
   steps_sorted (Again id) c =
       let step = Again id in
       on_some-keeps (StepSorted taught m h step) _ (attempt_of m.column id) m.column
       (λ a e. on_some-keeps (StepSorted taught m h step) _ a.coord.proposed m.column
-      (λ o p. again_sorted taught m h step a o (own_number m.column id a e) (there (λ (x : AttemptState). is_some x.txn) (attempt_of m.column id) a e c.1.0) p) (stays taught m h step)) (stays taught m h step)
+      (λ o p. again_sorted taught m h step (idle_from m.column.work c.0) a o (own_number m.column id a e) (there (λ (x : AttemptState). is_some x.txn) (attempt_of m.column id) a e c.1.0) p) (stays taught m h step (idle_from m.column.work c.0))) (stays taught m h step (idle_from m.column.work c.0))
   steps_sorted (Takeover id view) c =
       let step = Takeover id view in
       on_some-keeps (StepSorted taught m h step) _ (attempt_of m.column id) m.column
-      (λ a e. begins_takeover taught m h step a view (own_number m.column id a e) (from_validate id a c.1.0 e) (grind (arith, nat_tests, c.1.1.0))
-      (subst (λ (x : TxnId). takeover_of m.column x view ≡ None) (sym (attempt_id m.column id a e)) (none_from (takeover_of m.column id view) (grind (arith, c.1.1.0))))) (stays taught m h step)
+      (λ a e. begins_takeover taught m h step (idle_from m.column.work c.0) a view (own_number m.column id a e) (from_validate id a c.1.0 e) (grind (arith, nat_tests, c.1.1.0))
+      (subst (λ (x : TxnId). takeover_of m.column x view ≡ None) (sym (attempt_id m.column id a e)) (none_from (takeover_of m.column id view) (grind (arith, c.1.1.0))))) (stays taught m h step (idle_from m.column.work c.0))
   steps_sorted (PickStep id view) c =
       let step = PickStep id view in
       on_some-keeps (StepSorted taught m h step) _ (attempt_of m.column id) m.column
       (λ a e. on_some-keeps (StepSorted taught m h step) _ (takeover_of m.column a.id view) m.column
-      (λ t k. picked_sorted taught m h step view a t (pick m.round.faults t.state) (own_number m.column id a e) (by_view a.id view a t k (own_number m.column id a e))
-      (h.takeovers a.id view t k).from_one k refl) (stays taught m h step)) (stays taught m h step)
-  steps_sorted (Stop id) c = untouched taught m h (Stop id) _ refl refl (WorkStays refl refl)
+      (λ t k. picked_sorted taught m h step (idle_from m.column.work c.0) view a t (pick m.round.faults t.state) (own_number m.column id a e) (by_view a.id view a t k (own_number m.column id a e))
+      (h.takeovers a.id view t k).from_one k refl) (stays taught m h step (idle_from m.column.work c.0))) (stays taught m h step (idle_from m.column.work c.0))
+  steps_sorted (Stop id) c = untouched taught m h (Stop id) _ refl refl (WorkRests (idle_from m.column.work c.0))

@@ -186,9 +186,8 @@ pub data NewLearning (m next : Moment) (l : Learning) : Type 0 where
 
 -- ---- key calls
 
--- the key calls under way stay, end, begin, or go on
+-- the key calls under way are none, or begin, or go on
 pub data WorkMove (m next : Moment) (old new : Work) : Type 0 where
-  WorkStays : new ≡ old → next.round ≡ m.round → WorkMove m next old new
   WorkRests : new ≡ Idle → WorkMove m next old new
   WorkFetches : (id : TxnId) (replica key : ℕ) → old ≡ Idle → new ≡ Fetching id replica key → WorkMove m next old new
   WorkValidates : (txn : Transaction) (r epoch : ℕ) (served : ServesAttempt m r txn.id txn) → served.attempt.epoch ≡ epoch → next.round ≡ m.round → r < members m.round.faults → old ≡ Idle →
