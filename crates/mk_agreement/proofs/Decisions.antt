@@ -1,6 +1,6 @@
 -- What a ruling and a pick tell of the votes, replies and accepts.
-use Rattle.std.proofs.Common.{◌≡◌, ◌⊎◌, ◌≤◌, ℕ, zero, suc, ◌*◌, Bool, true, false, refl, arith, inl, inr, sym, ap, ◌∙◌, List, [], ◌∷◌, Option, Some, None, subst, cond, map, add-one}
-use Rattle.std.specs.Prelude.{nat_lt, nat_le, ◌==◌, ◌&&◌, replicate, slice_set}
+use Rattle.std.proofs.Common.{◌≡◌, ◌⊎◌, ◌≤◌, ℕ, zero, suc, Bool, true, false, refl, arith, inl, inr, sym, ap, ◌∙◌, List, [], ◌∷◌, Option, Some, None, subst, cond, map}
+use Rattle.std.specs.Prelude.{nat_lt, nat_le, ◌==◌, ◌&&◌, slice_set}
 use Rattle.std.proofs.lemmas.Bool.Decides.{nat_tests}
 use Rattle.mk_txn.specs.declared.TxnId.{TxnId}
 use Rattle.mk_txn.specs.Transactions.{same_id}
@@ -11,7 +11,6 @@ use Rattle.mk_txn.specs.declared.Outcome.TheVariants.{Commit, Abort}
 use Rattle.mk_txn.specs.Outcomes.{is_ok_vote, highest}
 use Rattle.mk_txn.proofs.ClashFacts.{list_any-from_member}
 use Rattle.mk_msg.specs.declared.Msg.{Msg}
-use Rattle.mk_msg.specs.declared.Body.{Body}
 use Rattle.mk_msg.specs.declared.Body.TheVariants.{Accepted as AcceptedBody}
 use Rattle.mk_quorum.specs.Counts.{count_below}
 use Rattle.mk_quorum.specs.Sizes.{members, majority_of, fast_of}

@@ -1,8 +1,7 @@
 -- What an event does to a column only adds to what is there.
-use Rattle.std.proofs.Common.{◌≡◌, ◌⊎◌, ◌<◌, ◌≤◌, ◌∙◌, ℕ, Bool, true, false, refl, arith, inl, inr, sym, ap, subst, List, Option, Some, None}
+use Rattle.std.proofs.Common.{◌≡◌, ◌≤◌, ◌∙◌, ℕ, true, false, refl, arith, inl, inr, sym, ap, subst, Option, Some, None}
 use Rattle.std.specs.Prelude.{is_some}
 use Rattle.std.specs.Option.{option_or}
-use Rattle.mk_lists.specs.Among.{Among}
 use Rattle.mk_txn.specs.declared.TxnId.{TxnId}
 use Rattle.mk_txn.specs.declared.Vote.{Vote}
 use Rattle.mk_txn.specs.declared.Accepted.{Accepted}
@@ -12,17 +11,15 @@ use Rattle.mk_msg.specs.declared.Body.{Body}
 use Rattle.mk_msg.specs.declared.Body.TheVariants.{Voted, Accepted as AcceptedBody, Told as ToldBody, Moved as MovedBody}
 use Rattle.mk_quorum.specs.Slots.{slot}
 use Rattle.mk_valid.specs.Validations.{ValidationState}
-use Rattle.mk_coord.specs.Rulings.{CoordState, ruling}
-use Rattle.mk_takeover.specs.Picks.{TakeoverState, pick}
-use Rattle.mk_column.specs.ColumnState.{ColumnState, AttemptState, TakeoverOf, Work, attempt_of, takeover_of}
-use Rattle.mk_column.specs.ColumnState.Work.{Idle, Fetching, Validating, Finishing}
-use Rattle.mk_column.specs.Answers.{coord_answered, attempt_answered, state_answered, takeover_answered, moved_outcome}
-use Rattle.mk_column.specs.Steps.{with_txn, with_read, proposing, taught as having_learned, closing, takeover_proposing}
-use Rattle.mk_column.specs.Logs.{not_reading}
+use Rattle.mk_coord.specs.Rulings.{CoordState}
+use Rattle.mk_takeover.specs.Picks.{TakeoverState}
+use Rattle.mk_column.specs.ColumnState.{ColumnState, AttemptState, TakeoverOf, attempt_of, takeover_of}
+use Rattle.mk_column.specs.ColumnState.Work.{Validating}
+use Rattle.mk_column.specs.Answers.{coord_answered, state_answered, moved_outcome}
 use Rattle.mk_column.proofs.Frames.{either_way}
 use Rattle.mk_agreement.specs.Moments.{Moment, PastEntry, Taught}
-use Rattle.mk_agreement.specs.Messages.{Sent, msg_of}
-use Rattle.mk_agreement.specs.Moves.{Moves, AttemptMove, AttemptChange, TakeoverMove, TakeoverChange, EntryMove, WorkMove, Newborn, past_opened, past_or_opened}
+use Rattle.mk_agreement.specs.Messages.{msg_of}
+use Rattle.mk_agreement.specs.Moves.{Moves, AttemptMove, AttemptChange, TakeoverMove, TakeoverChange, EntryMove, WorkMove, Newborn, past_opened}
 use Rattle.mk_agreement.specs.Moves.AttemptMove.{AttemptStays, AttemptBegins, AttemptChanges}
 use Rattle.mk_agreement.specs.Moves.AttemptChange.{EndsReading, Reads, Stamps, RulesFast, RulesLearned, Proposes, Hears, Stops}
 use Rattle.mk_agreement.specs.Moves.TakeoverMove.{TakeoverStays, TakeoverBegins, TakeoverChanges}
@@ -30,7 +27,7 @@ use Rattle.mk_agreement.specs.Moves.TakeoverChange.{Picks, Closes, TakeoverHears
 use Rattle.mk_agreement.specs.Moves.EntryMove.{EntryStays, EntryOpens, EntryVotes, EntryPromises, EntryAccepts, EntryFinishes}
 use Rattle.mk_agreement.specs.Moves.WorkMove.{WorkRests, WorkFetches, WorkValidates, WorkGoesOn, WorkFinishes}
 use Rattle.mk_agreement.specs.Moves.Newborn.{ValidateSent, AskSent, ProposalSent, FastSent, LearnedSent, KnownSent, PickSent, VoteSent, AcceptedSent, FinalToldSent, PromiseSent, MovedSent}
-use Rattle.mk_agreement.specs.Facts.{Facts, AttemptFacts, Grows, AttemptGrows, TakeoverGrows, EntryGrows, IsSealed}
+use Rattle.mk_agreement.specs.Facts.{Facts, AttemptFacts, Grows, AttemptGrows, TakeoverGrows, EntryGrows}
 use Rattle.mk_agreement.proofs.Lookups.{some_same}
 use Rattle.mk_agreement.proofs.Decisions.{ruling-propose, pick-propose, filled-keeps}
 
@@ -85,9 +82,18 @@ change_grows taught m next id a b f (Proposes o none is e p) =
     subst (AttemptGrows a) (sym e)
     (record { same_id = refl; same_epoch = refl; same_replica = refl; same_unread = refl; txn = λ t k. k; stopped = λ k. k; proposed = λ x k. absurd (none_some a.coord.proposed x unproposed k); learned = λ x k. k; no_more = λ k. absurd (none_there a.coord.learned none k); votes = λ r v k. k })
 change_grows taught m next id a b f (Hears msg among same view none e) = subst (AttemptGrows a) (sym e)
-    (record { same_id = refl; same_epoch = refl; same_replica = refl; same_unread = refl; txn = λ t k. k; stopped = λ k. k;
-      proposed = λ x k. answered_proposed msg.replica msg.body a.coord ∙ k; learned = λ x k. absurd (none_some a.coord.learned x none k);
-      no_more = λ _. answered_proposed msg.replica msg.body a.coord; votes = λ r v k. answered_votes msg.replica msg.body a.coord r v k })
+    (record {
+      same_id = refl;
+      same_epoch = refl;
+      same_replica = refl;
+      same_unread = refl;
+      txn = λ t k. k;
+      stopped = λ k. k;
+      proposed = λ x k. answered_proposed msg.replica msg.body a.coord ∙ k;
+      learned = λ x k. absurd (none_some a.coord.learned x none k);
+      no_more = λ _. answered_proposed msg.replica msg.body a.coord;
+      votes = λ r v k. answered_votes msg.replica msg.body a.coord r v k;
+    })
 change_grows taught m next id a b f (Stops e) = subst (AttemptGrows a) (sym e) (record { same_id = refl; same_epoch = refl; same_replica = refl; same_unread = refl; txn = λ t k. k; stopped = λ _. refl; proposed = λ o k. k; learned = λ o k. k; no_more = λ _. refl; votes = λ r v k. k })
 
 -- ---- takeovers

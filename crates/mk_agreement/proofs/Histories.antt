@@ -1,13 +1,12 @@
 -- What is remembered of an entry after each of its changes.
-use Rattle.std.proofs.Common.{◌≡◌, ◌⊎◌, ◌∙◌, ℕ, true, refl, sym, ap, subst, inl, inr, Option, Some, None}
+use Rattle.std.proofs.Common.{◌≡◌, ◌∙◌, ℕ, refl, ap, inl, inr, Option, Some, None}
 use Rattle.std.specs.Prelude.{option_map}
 use Rattle.mk_txn.specs.declared.TxnId.{TxnId}
 use Rattle.mk_txn.specs.declared.Vote.{Vote}
 use Rattle.mk_txn.specs.declared.Outcome.{Outcome}
 use Rattle.mk_txn.specs.Transactions.{Transaction}
-use Rattle.mk_record.specs.declared.Entry.{Entry}
 use Rattle.mk_record.specs.Entries.{opened, entry_of, with_vote, with_promise, with_accepted, with_last}
-use Rattle.mk_column.specs.ColumnState.{AttemptState, attempt_of, entries_at}
+use Rattle.mk_column.specs.ColumnState.{entries_at}
 use Rattle.mk_column.specs.Replicas.{entry_or_opened}
 use Rattle.mk_agreement.specs.Moments.{Moment, PastEntry, dated, past_vote, past_last, remembered, remembered_from}
 use Rattle.mk_agreement.specs.Moves.{past_opened, past_or_opened, undated, entry_of_past, IsMatched}

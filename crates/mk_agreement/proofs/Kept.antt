@@ -1,54 +1,43 @@
 -- Every event keeps what holds of a column.
-use Rattle.std.proofs.Common.{◌≡◌, ◌⊎◌, ◌<◌, ◌≤◌, ◌∙◌, ℕ, zero, suc, Bool, true, false, refl, arith, inl, inr, sym, ap, subst, List, [], ◌∷◌, Option, Some, None}
-use Rattle.std.specs.Prelude.{is_some, length}
+use Rattle.std.proofs.Common.{◌≡◌, ◌⊎◌, ◌<◌, ◌≤◌, ◌∙◌, ℕ, Bool, true, false, refl, arith, inl, inr, sym, ap, subst, List, Option, Some, None}
+use Rattle.std.specs.Prelude.{is_some}
 use Rattle.std.specs.Option.{option_or}
 use Rattle.mk_lists.specs.Among.{Among}
 use Rattle.mk_txn.specs.declared.TxnId.{TxnId}
 use Rattle.mk_txn.specs.declared.Vote.{Vote}
-use Rattle.mk_txn.specs.declared.Accepted.{Accepted}
 use Rattle.mk_txn.specs.declared.Outcome.{Outcome}
-use Rattle.mk_txn.specs.Outcomes.{is_commit}
 use Rattle.mk_txn.specs.Transactions.{Transaction}
 use Rattle.mk_msg.specs.declared.Told.{Told}
 use Rattle.mk_msg.specs.declared.Moved.{Moved}
 use Rattle.mk_msg.specs.declared.Msg.{Msg}
 use Rattle.mk_msg.specs.declared.Body.{Body}
-use Rattle.mk_msg.specs.declared.Body.TheVariants.{Validate as ValidateBody, Voted, Accept, Accepted as AcceptedBody, Decide, Ask, Told as ToldBody, Moved as MovedBody}
-use Rattle.mk_quorum.specs.Counts.{count_below}
-use Rattle.mk_quorum.specs.Sizes.{members, majority_of}
+use Rattle.mk_msg.specs.declared.Body.TheVariants.{Voted, Accepted as AcceptedBody, Decide, Told as ToldBody, Moved as MovedBody}
+use Rattle.mk_quorum.specs.Sizes.{members}
 use Rattle.mk_quorum.specs.Slots.{slot}
-use Rattle.mk_valid.specs.Validations.{ValidationState}
 use Rattle.mk_coord.specs.declared.Ruling.TheVariants.{Fast, Propose, Learned}
-use Rattle.mk_coord.specs.Rulings.{CoordState, by_votes, ruling, new_coord, count_accepts}
+use Rattle.mk_coord.specs.Rulings.{CoordState, by_votes, ruling, new_coord}
 use Rattle.mk_takeover.specs.declared.Pick.TheVariants.{Known, Learned as PickLearned, Propose as PickPropose}
 use Rattle.mk_takeover.specs.Picks.{TakeoverState, by_promises, pick, new_takeover, unless_learned}
-use Rattle.mk_column.specs.ColumnState.{AttemptState, TakeoverOf, Work, Learning, attempt_of, takeover_of}
-use Rattle.mk_column.specs.ColumnState.Work.{Idle, Fetching, Validating, Finishing}
+use Rattle.mk_column.specs.ColumnState.{AttemptState, TakeoverOf, attempt_of, takeover_of}
 use Rattle.mk_column.specs.ColumnState.Way.{ByVotes}
-use Rattle.mk_column.specs.Replicas.{told_of}
-use Rattle.mk_column.specs.Answers.{coord_answered, attempt_answered, state_answered, takeover_answered, moved_outcome, outcome_after}
+use Rattle.mk_column.specs.Answers.{attempt_answered, state_answered, moved_outcome}
 use Rattle.mk_column.specs.Learnings.{learning}
-use Rattle.mk_column.specs.Steps.{with_txn, with_read, proposing, taught as having_learned, closing, takeover_proposing}
+use Rattle.mk_column.specs.Steps.{taught as having_learned, takeover_proposing}
 use Rattle.mk_column.proofs.Frames.{either_way}
-use Rattle.mk_agreement.specs.Moments.{Moment, PastEntry, Taught, StaysTaught}
+use Rattle.mk_agreement.specs.Moments.{Moment, Taught, StaysTaught}
 use Rattle.mk_agreement.specs.Messages.{Sent, Proposed, VotesIn, RepliesIn, taking_over, msg_of}
 use Rattle.mk_agreement.specs.Decided.{IsDecided}
-use Rattle.mk_agreement.specs.Moves.{Moves, AttemptMove, AttemptChange, TakeoverMove, TakeoverChange, EntryMove, WorkMove, Newborn, NewLearning, ServesAttempt, IsMatched, IsStampedIn, HasProposed, past_opened, past_or_opened, undated, entry_of_past}
+use Rattle.mk_agreement.specs.Moves.{Moves, AttemptMove, AttemptChange, TakeoverMove, TakeoverChange, HasProposed}
 use Rattle.mk_agreement.specs.Moves.AttemptMove.{AttemptStays, AttemptBegins, AttemptChanges}
 use Rattle.mk_agreement.specs.Moves.AttemptChange.{EndsReading, Reads, Stamps, RulesFast, RulesLearned, Proposes, Hears, Stops}
 use Rattle.mk_agreement.specs.Moves.TakeoverMove.{TakeoverStays, TakeoverBegins, TakeoverChanges}
 use Rattle.mk_agreement.specs.Moves.TakeoverChange.{Picks, Closes, TakeoverHears}
-use Rattle.mk_agreement.specs.Moves.EntryMove.{EntryStays, EntryOpens, EntryVotes, EntryPromises, EntryAccepts, EntryFinishes}
-use Rattle.mk_agreement.specs.Moves.WorkMove.{WorkRests, WorkFetches, WorkValidates, WorkGoesOn, WorkFinishes}
-use Rattle.mk_agreement.specs.Moves.Newborn.{ValidateSent, AskSent, ProposalSent, FastSent, LearnedSent, KnownSent, PickSent, VoteSent, AcceptedSent, FinalToldSent, PromiseSent, MovedSent}
-use Rattle.mk_agreement.specs.Moves.NewLearning.{LearnsFast, LearnsByAccepts, LearnsKnown, LearnsByPick, LearnsTold, LearnsMoved, LearnsFinishing}
-use Rattle.mk_agreement.specs.Facts.{Facts, AttemptFacts, TakeoverFacts, EntryFacts, FastFacts, RoundFacts, WorkFacts, ToldFacts, IsPromise, AcceptFacts, IsSealed, Says, IsBacked, IsSupported, IsTaught, Grows}
+use Rattle.mk_agreement.specs.Facts.{Facts, AttemptFacts, TakeoverFacts, IsBacked, Grows}
 use Rattle.mk_agreement.proofs.Lookups.{some_same}
-use Rattle.mk_agreement.proofs.Histories.{undated-none, undated-some}
 use Rattle.mk_agreement.proofs.Decisions.{ruling-fast, ruling-propose, ruling-learned, pick-known, pick-learned, pick-propose, accepts_chosen, slot-empty, slot-filled}
-use Rattle.mk_agreement.proofs.Growing.{grows, none_some, none_there, answered_proposed}
-use Rattle.mk_agreement.proofs.Views.{told_says, proposed_says, voted_says, fast_supported, decided_supported, one_proposal}
-use Rattle.mk_agreement.proofs.Stable.{Sent-grows, Proposed-grows, VotesIn-grows, RepliesIn-grows, IsSupported-grows, IsBacked-grows, IsStampedIn-grows, Says-grows, AttemptFacts-grows, TakeoverFacts-grows, EntryFacts-grows, FastFacts-grows}
+use Rattle.mk_agreement.proofs.Growing.{grows, none_some, none_there}
+use Rattle.mk_agreement.proofs.Views.{told_says, proposed_says, fast_supported, decided_supported}
+use Rattle.mk_agreement.proofs.Stable.{Sent-grows, IsSupported-grows, IsBacked-grows, IsStampedIn-grows, AttemptFacts-grows, TakeoverFacts-grows}
 
 -- a takeover that proposes had been taught nothing
 pick-untaught : (f : ℕ) (s : TakeoverState) (o : Outcome) (l : Option Outcome) → s.learned ≡ l → pick f s ≡ PickPropose o → s.learned ≡ None
@@ -97,8 +86,11 @@ module _ (taught : Taught) (stays : StaysTaught taught) (m next : Moment) (h : F
   fast_backed id a o e is among =
       let f = h.attempts id a e in
       let k = ruling-fast m.round.faults a.coord o a.coord.learned a.coord.proposed refl refl is in
-      inl (inl among, λ c. IsSupported-grows taught stays m next (grows taught m next h moves) id m.past.now next.past.now moves.rises
-      (fast_supported taught m h id a.coord.votes o f.votes k.1 c))
+      inl (
+        inl among,
+        λ c. IsSupported-grows taught stays m next (grows taught m next h moves) id m.past.now next.past.now moves.rises
+            (fast_supported taught m h id a.coord.votes o f.votes k.1 c),
+      )
 
   -- by a pick
   pub known_backed : (id : TxnId) (v : ℕ) (t : TakeoverOf) (o : Outcome) → takeover_of m.column id v ≡ Some t → pick m.round.faults t.state ≡ Known o → IsBacked taught next id o next.past.now
@@ -135,7 +127,12 @@ module _ (taught : Taught) (stays : StaysTaught taught) (m next : Moment) (h : F
     answered_facts : (a : AttemptState) (r : ℕ) (b : Body) → Sent m.column.link id r 0 b → AttemptFacts taught next id a → AttemptFacts taught next id (attempt_answered r b a)
     answered_facts a r (Voted vote) s k =
         record {
-          own_id = k.own_id; unstamped = k.unstamped; txn_id = k.txn_id; accepts = k.accepts; proposed = k.proposed; learned = k.learned;
+          own_id = k.own_id;
+          unstamped = k.unstamped;
+          txn_id = k.txn_id;
+          accepts = k.accepts;
+          proposed = k.proposed;
+          learned = k.learned;
           votes = λ q x e. elim (slot-filled a.coord.votes r q vote x e) [
             | inl old ↦ k.votes q x old
             | inr new ↦ subst (λ (n : ℕ). Sent next.column.link id n 0 (Voted x)) (sym new.0) (subst (λ (y : Vote). Sent next.column.link id r 0 (Voted y)) new.1 (Sent-grows taught stays m next (grows taught m next h moves) id r 0 (Voted vote) s))
@@ -143,7 +140,12 @@ module _ (taught : Taught) (stays : StaysTaught taught) (m next : Moment) (h : F
         }
     answered_facts a r AcceptedBody s k =
         record {
-          own_id = k.own_id; unstamped = k.unstamped; txn_id = k.txn_id; votes = k.votes; proposed = k.proposed; learned = k.learned;
+          own_id = k.own_id;
+          unstamped = k.unstamped;
+          txn_id = k.txn_id;
+          votes = k.votes;
+          proposed = k.proposed;
+          learned = k.learned;
           accepts = λ q x e. elim (slot-filled a.coord.accepts r q true x e) [
             | inl old ↦ k.accepts q x old
             | inr new ↦ subst (λ (n : ℕ). Sent next.column.link id n 0 AcceptedBody) (sym new.0) (Sent-grows taught stays m next (grows taught m next h moves) id r 0 AcceptedBody s)
@@ -151,12 +153,22 @@ module _ (taught : Taught) (stays : StaysTaught taught) (m next : Moment) (h : F
         }
     answered_facts a r (ToldBody told) s k =
         record {
-          own_id = k.own_id; unstamped = k.unstamped; txn_id = k.txn_id; votes = k.votes; accepts = k.accepts; proposed = k.proposed;
+          own_id = k.own_id;
+          unstamped = k.unstamped;
+          txn_id = k.txn_id;
+          votes = k.votes;
+          accepts = k.accepts;
+          proposed = k.proposed;
           learned = λ o e. elim (or_cases a.coord.learned told.last o e) [ inl old ↦ k.learned o old | inr new ↦ told_backed id r 0 told o s new.1 ];
         }
     answered_facts a r (MovedBody moved) s k =
         record {
-          own_id = k.own_id; unstamped = k.unstamped; txn_id = k.txn_id; votes = k.votes; accepts = k.accepts; proposed = k.proposed;
+          own_id = k.own_id;
+          unstamped = k.unstamped;
+          txn_id = k.txn_id;
+          votes = k.votes;
+          accepts = k.accepts;
+          proposed = k.proposed;
           learned = λ o e. elim (or_cases a.coord.learned (moved_outcome moved) o e) [ inl old ↦ k.learned o old | inr new ↦ moved_backed id r 0 moved o s new.1 ];
         }
     answered_facts a r _ s k = record { own_id = k.own_id; unstamped = k.unstamped; txn_id = k.txn_id; votes = k.votes; accepts = k.accepts; proposed = k.proposed; learned = k.learned }
@@ -164,7 +176,12 @@ module _ (taught : Taught) (stays : StaysTaught taught) (m next : Moment) (h : F
     learns : (a : AttemptState) (o : Outcome) → IsBacked taught next id o next.past.now → AttemptFacts taught next id a → AttemptFacts taught next id (having_learned o a)
     learns a o b k =
         record {
-          own_id = k.own_id; unstamped = k.unstamped; txn_id = k.txn_id; votes = k.votes; accepts = k.accepts; proposed = k.proposed;
+          own_id = k.own_id;
+          unstamped = k.unstamped;
+          txn_id = k.txn_id;
+          votes = k.votes;
+          accepts = k.accepts;
+          proposed = k.proposed;
           learned = λ p e. elim (or_cases a.coord.learned (Some o) p e) [ inl old ↦ k.learned p old | inr new ↦ subst (λ (x : Outcome). IsBacked taught next id x next.past.now) (some_same o p new.1) b ];
         }
 
@@ -186,7 +203,12 @@ module _ (taught : Taught) (stays : StaysTaught taught) (m next : Moment) (h : F
         is = λ i. record { epoch = msg.epoch; id = same i; replica = msg.replica; view = view i; body = msg.body }
     change_facts a b found k (Proposes o none is e p) = subst (AttemptFacts taught next id) (sym e)
         (record {
-          own_id = k.own_id; unstamped = k.unstamped; txn_id = k.txn_id; votes = k.votes; accepts = k.accepts; learned = k.learned;
+          own_id = k.own_id;
+          unstamped = k.unstamped;
+          txn_id = k.txn_id;
+          votes = k.votes;
+          accepts = k.accepts;
+          learned = k.learned;
           proposed = λ x q.
               let r = ruling-propose m.round.faults a.coord o a.coord.learned a.coord.proposed refl refl is in
               let same = some_same o x q in
@@ -219,7 +241,12 @@ module _ (taught : Taught) (stays : StaysTaught taught) (m next : Moment) (h : F
     state_facts : (t : TakeoverOf) (r : ℕ) (b : Body) → Sent m.column.link id r v b → TakeoverFacts taught next id v t → TakeoverFacts taught next id v (record t { state = state_answered r b t.state })
     state_facts t r AcceptedBody s k =
         record {
-          own_view = k.own_view; from_one = k.from_one; begun = k.begun; told = k.told; proposed = k.proposed; learned = k.learned;
+          own_view = k.own_view;
+          from_one = k.from_one;
+          begun = k.begun;
+          told = k.told;
+          proposed = k.proposed;
+          learned = k.learned;
           accepts = λ q x e. elim (slot-filled t.state.accepts r q true x e) [
             | inl old ↦ k.accepts q x old
             | inr new ↦ subst (λ (n : ℕ). Sent next.column.link id n v AcceptedBody) (sym new.0) (Sent-grows taught stays m next (grows taught m next h moves) id r v AcceptedBody s)
@@ -227,13 +254,17 @@ module _ (taught : Taught) (stays : StaysTaught taught) (m next : Moment) (h : F
         }
     state_facts t r (ToldBody told) s k =
         record {
-          own_view = k.own_view; from_one = k.from_one; begun = k.begun; accepts = k.accepts; proposed = k.proposed;
+          own_view = k.own_view;
+          from_one = k.from_one;
+          begun = k.begun;
+          accepts = k.accepts;
+          proposed = k.proposed;
           told = λ q x e. elim (slot-filled t.state.told r q told x e) [
             | inl old ↦ (let p = k.told q x old in (p.0, elim p.1 [ inl n ↦ inl n | inr l ↦ inr (or_some t.state.learned told.last l) ]))
             | inr new ↦ (
-                subst (λ (n : ℕ). Sent next.column.link id n v (ToldBody x)) (sym new.0) (subst (λ (y : Told). Sent next.column.link id r v (ToldBody y)) new.1 (Sent-grows taught stays m next (grows taught m next h moves) id r v (ToldBody told) s)),
-                subst (λ (y : Told). (y.last ≡ None) ⊎ (is_some (option_or t.state.learned told.last) ≡ true)) new.1 (by told.last refl)
-              )
+              subst (λ (n : ℕ). Sent next.column.link id n v (ToldBody x)) (sym new.0) (subst (λ (y : Told). Sent next.column.link id r v (ToldBody y)) new.1 (Sent-grows taught stays m next (grows taught m next h moves) id r v (ToldBody told) s)),
+              subst (λ (y : Told). (y.last ≡ None) ⊎ (is_some (option_or t.state.learned told.last) ≡ true)) new.1 (by told.last refl),
+            )
           ];
           learned = λ o e. elim (or_cases t.state.learned told.last o e) [ inl old ↦ k.learned o old | inr new ↦ told_backed id r v told o s new.1 ];
         }
@@ -243,7 +274,11 @@ module _ (taught : Taught) (stays : StaysTaught taught) (m next : Moment) (h : F
         by (Some o) e = inr (subst (λ (x : Option Outcome). is_some (option_or t.state.learned x) ≡ true) (sym e) (or_right t.state.learned o))
     state_facts t r (MovedBody moved) s k =
         record {
-          own_view = k.own_view; from_one = k.from_one; begun = k.begun; accepts = k.accepts; proposed = k.proposed;
+          own_view = k.own_view;
+          from_one = k.from_one;
+          begun = k.begun;
+          accepts = k.accepts;
+          proposed = k.proposed;
           told = λ q x e. let p = k.told q x e in (p.0, elim p.1 [ inl n ↦ inl n | inr l ↦ inr (or_some t.state.learned (moved_outcome moved) l) ]);
           learned = λ o e. elim (or_cases t.state.learned (moved_outcome moved) o e) [ inl old ↦ k.learned o old | inr new ↦ moved_backed id r v moved o s new.1 ];
         }
@@ -253,7 +288,12 @@ module _ (taught : Taught) (stays : StaysTaught taught) (m next : Moment) (h : F
         TakeoverFacts taught next id v (takeover_proposing o t)
     picks_facts t o found is p k =
         record {
-          own_view = k.own_view; from_one = k.from_one; begun = k.begun; told = k.told; accepts = k.accepts; learned = k.learned;
+          own_view = k.own_view;
+          from_one = k.from_one;
+          begun = k.begun;
+          told = k.told;
+          accepts = k.accepts;
+          learned = k.learned;
           proposed = λ x q. subst (λ (y : Outcome). Proposed next.column.link id v y × ((replies : List (Option Told)) × RepliesIn next.column.link id v replies × (by_promises next.round.faults (taking_over v replies) ≡ PickPropose y))) (some_same o x q)
               (p, (t.state.told, replied, subst (λ (f : ℕ). by_promises f (taking_over v t.state.told) ≡ PickPropose o) (sym moves.same_faults) (subst (λ (n : ℕ). by_promises m.round.faults (taking_over n t.state.told) ≡ PickPropose o) k.own_view why.1)));
         }

@@ -1,41 +1,35 @@
 -- Every event keeps what holds of entries, messages, learnings and key calls, and so all of it.
-use Rattle.std.proofs.Common.{◌≡◌, ◌⊎◌, ◌<◌, ◌≤◌, ◌∙◌, ℕ, Bool, true, false, refl, arith, inl, inr, sym, ap, subst, List, Option, Some, None}
-use Rattle.std.specs.Prelude.{is_some, length, slice_get}
-use Rattle.std.specs.Option.{option_or}
+use Rattle.std.proofs.Common.{◌≡◌, ◌⊎◌, ◌<◌, ◌≤◌, ◌∙◌, ℕ, true, refl, arith, inl, inr, sym, ap, subst, Option, Some, None}
+use Rattle.std.specs.Prelude.{length, slice_get}
 use Rattle.mk_lists.specs.Among.{Among}
 use Rattle.mk_txn.specs.declared.TxnId.{TxnId}
 use Rattle.mk_txn.specs.declared.Vote.{Vote}
 use Rattle.mk_txn.specs.declared.Accepted.{Accepted}
 use Rattle.mk_txn.specs.declared.Outcome.{Outcome}
 use Rattle.mk_txn.specs.Transactions.{Transaction}
-use Rattle.mk_msg.specs.declared.Told.{Told}
 use Rattle.mk_msg.specs.declared.Msg.{Msg}
-use Rattle.mk_msg.specs.declared.Body.{Body}
-use Rattle.mk_msg.specs.declared.Body.TheVariants.{Validate as ValidateBody, Voted, Accept, Accepted as AcceptedBody, Decide, Ask, Told as ToldBody, Moved as MovedBody}
+use Rattle.mk_msg.specs.declared.Body.TheVariants.{Accept, Accepted as AcceptedBody, Decide, Ask}
 use Rattle.mk_quorum.specs.Sizes.{members}
-use Rattle.mk_valid.specs.Validations.{ValidationState}
-use Rattle.mk_trim.specs.KeptOutcomes.{known_of}
 use Rattle.mk_coord.specs.declared.Ruling.TheVariants.{Fast}
-use Rattle.mk_coord.specs.Rulings.{ruling, by_votes}
-use Rattle.mk_column.specs.ColumnState.{AttemptState, TakeoverOf, Work, Way, Learning, attempt_of, takeover_of}
-use Rattle.mk_column.specs.ColumnState.Work.{Idle, Fetching, Validating, Finishing}
-use Rattle.mk_column.specs.ColumnState.Way.{ByVotes, ByAccepts, ByPick, ByMoved, ByTelling, ByFinishing}
+use Rattle.mk_coord.specs.Rulings.{by_votes}
+use Rattle.mk_column.specs.ColumnState.{AttemptState, TakeoverOf, Work, Learning, attempt_of, takeover_of}
+use Rattle.mk_column.specs.ColumnState.Work.{Idle, Validating}
+use Rattle.mk_column.specs.ColumnState.Way.{ByVotes}
 use Rattle.mk_column.specs.Replicas.{told_of, serves}
-use Rattle.mk_column.specs.Answers.{moved_outcome, outcome_after}
 use Rattle.mk_column.specs.Learnings.{learning}
 use Rattle.mk_column.specs.Steps.{taught as having_learned}
 use Rattle.mk_agreement.specs.Moments.{Moment, PastEntry, Taught, StaysTaught}
-use Rattle.mk_agreement.specs.Messages.{Sent, Proposed, VotesIn, msg_of}
-use Rattle.mk_agreement.specs.Moves.{Moves, EntryMove, WorkMove, Newborn, NewLearning, ServesAttempt, IsMatched, IsStampedIn, past_opened, past_or_opened, undated, entry_of_past}
+use Rattle.mk_agreement.specs.Messages.{Sent, Proposed, msg_of}
+use Rattle.mk_agreement.specs.Moves.{Moves, EntryMove, WorkMove, Newborn, NewLearning, ServesAttempt, IsMatched, past_opened, past_or_opened, undated, entry_of_past}
 use Rattle.mk_agreement.specs.Moves.EntryMove.{EntryStays, EntryOpens, EntryVotes, EntryPromises, EntryAccepts, EntryFinishes}
 use Rattle.mk_agreement.specs.Moves.WorkMove.{WorkRests, WorkFetches, WorkValidates, WorkGoesOn, WorkFinishes}
 use Rattle.mk_agreement.specs.Moves.Newborn.{ValidateSent, AskSent, ProposalSent, FastSent, LearnedSent, KnownSent, PickSent, VoteSent, AcceptedSent, FinalToldSent, PromiseSent, MovedSent}
 use Rattle.mk_agreement.specs.Moves.NewLearning.{LearnsFast, LearnsByAccepts, LearnsKnown, LearnsByPick, LearnsTold, LearnsMoved, LearnsFinishing}
-use Rattle.mk_agreement.specs.Facts.{Facts, EntryFacts, FastFacts, RoundFacts, WorkFacts, ToldFacts, IsPromise, AcceptFacts, IsSealed, Says, IsBacked, Grows}
+use Rattle.mk_agreement.specs.Facts.{Facts, EntryFacts, FastFacts, RoundFacts, WorkFacts, ToldFacts, Says, IsBacked}
 use Rattle.mk_agreement.proofs.Lookups.{some_same}
 use Rattle.mk_agreement.proofs.Histories.{undated-none, undated-some}
 use Rattle.mk_agreement.proofs.Decisions.{ruling-fast}
-use Rattle.mk_agreement.proofs.Growing.{grows, none_some, none_there}
+use Rattle.mk_agreement.proofs.Growing.{grows, none_some}
 use Rattle.mk_agreement.proofs.Stable.{Sent-grows, Proposed-grows, VotesIn-grows, IsBacked-grows, IsStampedIn-grows, Says-grows, EntryFacts-grows, FastFacts-grows}
 use Rattle.mk_agreement.proofs.Kept.{attempt_facts, takeover_facts, backed_later, learned_backed, fast_backed, known_backed, picked_backed, told_backed, moved_backed, decide_backed, or_right}
 
@@ -104,18 +98,18 @@ module _ (taught : Taught) (stays : StaysTaught taught) (m next : Moment) (h : F
   entry_facts r id old new is (EntryAccepts txn view outcome s sent last le k w1 w2) e n =
       subst (EntryFacts taught next r id) (some_same _ e (sym k ∙ n))
       (entry_for r id txn s _ (there_txn r id txn s old is)
-      (λ a z. let same = some_same (record { view = view; outcome = outcome }) a z in
-      (let v : view ≡ a.view = ap (λ (x : Accepted). x.view) same in omega (arith, v),
-      subst (λ (x : Accepted). Proposed next.column.link id x.view x.outcome) same (r, Sent-grows taught stays m next (grows taught m next h moves) id r view (Accept outcome) sent)))
+      (λ a z. let same = some_same (record { view = view; outcome = outcome }) a z in (
+        let v : view ≡ a.view = ap (λ (x : Accepted). x.view) same in omega (arith, v),
+        subst (λ (x : Accepted). Proposed next.column.link id x.view x.outcome) same (r, Sent-grows taught stays m next (grows taught m next h moves) id r view (Accept outcome) sent),
+      ))
       (there_voted r id txn s old is) (no_last r id txn s (past_or_opened txn old).last last))
   entry_facts r id old new is (EntryFinishes txn view outcome s sent last k w1) e n =
       subst (EntryFacts taught next r id) (some_same _ e (sym k ∙ n))
       (entry_for r id txn s _ (there_txn r id txn s old is) (there_accepted r id txn s old is) (there_voted r id txn s old is)
-      (λ o i z. let d = same_date outcome o m.past.now i z in
-      (
+      (λ o i z. let d = same_date outcome o m.past.now i z in (
         (let t = d.1 in omega (arith, t, moves.rises)),
         subst (λ (x : Outcome). IsBacked taught next id x i) d.0 (subst (IsBacked taught next id outcome) d.1
-        (IsBacked-grows taught stays m next (grows taught m next h moves) id outcome m.past.now m.past.now (omega arith) (decide_backed taught stays m next h moves id r view outcome sent))),
+            (IsBacked-grows taught stays m next (grows taught m next h moves) id outcome m.past.now m.past.now (omega arith) (decide_backed taught stays m next h moves id r view outcome sent))),
         subst (λ (x : Outcome). (q v : ℕ) × Sent next.column.link id q v (Decide x)) d.0 (r, view, Sent-grows taught stays m next (grows taught m next h moves) id r view (Decide outcome) sent),
       )))
 
@@ -258,8 +252,7 @@ module _ (taught : Taught) (stays : StaysTaught taught) (m next : Moment) (h : F
 
   serves_next : (r : ℕ) (id : TxnId) (txn : Transaction) (s : ServesAttempt m r id txn) → next.round ≡ m.round → (n : ServesAttempt next r id txn) × (n.attempt.epoch ≡ s.attempt.epoch)
   serves_next r id txn s round =
-      let b = (grows taught m next h moves).attempts id s.attempt s.found in
-      (
+      let b = (grows taught m next h moves).attempts id s.attempt s.found in (
         record {
           attempt = b.0;
           found = b.1;
@@ -292,9 +285,9 @@ module _ (taught : Taught) (stays : StaysTaught taught) (m next : Moment) (h : F
         entries = λ r id e k. entry_facts r id (m.past.entries r id) (next.past.entries r id) refl (moves.entries r id) e k;
         messages = λ msg a. elim (moves.messages msg a) [
           | inl old ↦ (
-              IsStampedIn-grows taught stays m next (grows taught m next h moves) msg.id msg.epoch (h.messages msg old).0,
-              Says-grows taught stays m next (grows taught m next h moves) msg msg.body (h.messages msg old).1
-            )
+            IsStampedIn-grows taught stays m next (grows taught m next h moves) msg.id msg.epoch (h.messages msg old).0,
+            Says-grows taught stays m next (grows taught m next h moves) msg msg.body (h.messages msg old).1,
+          )
           | inr new ↦ (new.0, says_newborn msg new.1)
         ];
         fast = λ id o a. elim (moves.learnings (learning id ByVotes o) a) [

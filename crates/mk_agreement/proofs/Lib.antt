@@ -17,3 +17,6 @@ pub mod Stable
 pub mod Kept
 pub mod KeptAll
 pub mod Rounds
+pub mod Growth
+pub mod TheLaws
+pub mod OneEpoch

@@ -1,6 +1,6 @@
 -- What a replica does with a message, sorted.
-use Rattle.std.proofs.Common.{◌≡◌, ◌<◌, ◌≤◌, ◌∙◌, ℕ, Bool, true, false, refl, arith, sym, ap, subst, List, [], ◌∷◌, ◌++◌, Option, Some, None, not}
-use Rattle.std.specs.Prelude.{option_map, nat_lt, slice_get}
+use Rattle.std.proofs.Common.{◌≡◌, ◌<◌, ◌≤◌, ◌∙◌, ℕ, true, false, refl, arith, sym, ap, subst, [], ◌∷◌, ◌++◌, Option, Some, None, not}
+use Rattle.std.specs.Prelude.{option_map, nat_lt}
 use Rattle.std.proofs.lemmas.Bool.Decides.{nat_tests}
 use Rattle.mk_txn.specs.declared.TxnId.{TxnId}
 use Rattle.mk_txn.specs.declared.Vote.{Vote}
@@ -13,17 +13,16 @@ use Rattle.mk_msg.specs.declared.Msg.{Msg}
 use Rattle.mk_msg.specs.declared.Body.{Body}
 use Rattle.mk_msg.specs.declared.Body.TheVariants.{Validate as ValidateBody, Voted, Accept, Accepted as AcceptedBody, Decide, Ask, Told as ToldBody, Moved as MovedBody}
 use Rattle.mk_quorum.specs.Slots.{passes}
-use Rattle.mk_valid.specs.Checks.{KeyAct, finish_acts}
+use Rattle.mk_valid.specs.Checks.{finish_acts}
 use Rattle.mk_valid.specs.Validations.{validation_of}
 use Rattle.mk_trim.specs.KeptOutcomes.{known_of}
 use Rattle.mk_merge.specs.declared.ReplicaView.{ReplicaView}
-use Rattle.mk_column.specs.ColumnState.{Work}
 use Rattle.mk_column.specs.ColumnState.Work.{Idle, Validating}
-use Rattle.mk_column.specs.Replicas.{Held, Reaction, reply, ignored, answering, changing, marking, told_of, reaction, reaction_by_view, moved_reaction, on_validate, validate_known, validate_unfinished, ask_known, accept_known, decide_known, with_entry, is_serving, serves, finishing}
+use Rattle.mk_column.specs.Replicas.{Held, Reaction, reply, ignored, answering, changing, told_of, reaction, reaction_by_view, moved_reaction, validate_known, validate_unfinished, ask_known, accept_known, decide_known, with_entry, is_serving, serves, finishing}
 use Rattle.mk_column.proofs.Frames.{either_way}
 use Rattle.mk_agreement.specs.Moments.{PastEntry}
-use Rattle.mk_agreement.specs.Moves.{past_opened, past_or_opened, undated, entry_of_past}
-use Rattle.mk_agreement.proofs.Lookups.{entry_of-opened, entry_of-opened_other, entry_of-change, entry_of-change_other, same_id-itself}
+use Rattle.mk_agreement.specs.Moves.{past_or_opened, undated, entry_of_past}
+use Rattle.mk_agreement.proofs.Lookups.{entry_of-opened, entry_of-opened_other, entry_of-change, entry_of-change_other}
 
 -- what is done at the replica with a message of an attempt that was remembered so
 pub data ReactionKind (view : Option ReplicaView) (msg : Msg) (txn : Transaction) (before : Option Entry) (old : Option PastEntry) (re : Reaction) : Type 0 where

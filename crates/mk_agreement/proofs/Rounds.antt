@@ -1,11 +1,10 @@
 -- What holds at the start holds after every event.
-use Rattle.std.proofs.Common.{◌≡◌, ◌⊎◌, ◌<◌, ◌≤◌, ◌∙◌, ℕ, zero, suc, ◌+◌, Bool, true, false, refl, arith, inl, inr, sym, ap, subst, List, [], ◌∷◌, ◌++◌, Option, Some, None, map, length-set, get_or-set_other, ◌||◌, ◌&&◌}
+use Rattle.std.proofs.Common.{◌≡◌, ◌⊎◌, ◌<◌, ◌∙◌, ℕ, zero, suc, true, refl, arith, inl, inr, sym, ap, subst, List, [], ◌∷◌, Option, Some, None, map, length-set, get_or-set_other}
 use Rattle.std.proofs.lemmas.List.{length-replicate}
-use Rattle.std.specs.Prelude.{find, option_map, length, replicate, slice_get, slice_set, slice_index_or, is_some}
+use Rattle.std.specs.Prelude.{find, option_map, length, replicate, slice_set, slice_index_or}
 use Rattle.std.proofs.lemmas.Bool.Decides.{nat_tests}
 use Rattle.mk_lists.specs.Among.{Among, Among-append}
 use Rattle.mk_txn.specs.declared.TxnId.{TxnId}
-use Rattle.mk_txn.specs.declared.Outcome.{Outcome}
 use Rattle.mk_txn.specs.Transactions.{same_id}
 use Rattle.mk_record.specs.declared.Entry.{Entry}
 use Rattle.mk_record.specs.Entries.{entry_of}
@@ -13,14 +12,11 @@ use Rattle.mk_msg.specs.declared.Msg.{Msg}
 use Rattle.mk_quorum.specs.Sizes.{members}
 use Rattle.mk_merge.specs.declared.ReplicaView.{ReplicaView}
 use Rattle.mk_column.specs.declared.Step.{Step}
-use Rattle.mk_column.specs.ColumnState.{ColumnState, AttemptState, TakeoverOf, Learning, attempt_of, takeover_of, entries_at, is_attempt, is_takeover}
-use Rattle.mk_column.specs.ColumnState.Work.{Idle}
+use Rattle.mk_column.specs.ColumnState.{ColumnState, AttemptState, Learning, attempt_of, entries_at, is_attempt, is_takeover}
 use Rattle.mk_column.specs.Conditions.{blocked}
-use Rattle.mk_column.specs.Replicas.{serves}
-use Rattle.mk_column.specs.Steps.{stepped}
-use Rattle.mk_column.specs.Logs.{not_reading, reading_ended, replica_reset}
+use Rattle.mk_column.specs.Logs.{not_reading, replica_reset}
 use Rattle.mk_column.proofs.Frames.{enabled}
-use Rattle.mk_agreement.specs.Moments.{Moment, PastEntry, Taught, StaysTaught, IsRound, IsReached, Event, CanHappen, EachHappens, moment_through, after_event, step_done, round_begun, past_begun, replicas_reset, has_number, first_moment, remembered}
+use Rattle.mk_agreement.specs.Moments.{Moment, PastEntry, Taught, StaysTaught, IsRound, IsReached, Event, CanHappen, EachHappens, moment_through, after_event, step_done, round_begun, replicas_reset, has_number, first_moment}
 use Rattle.mk_agreement.specs.Moments.Event.{NewRound, Doing}
 use Rattle.mk_agreement.specs.Moves.{Moves, AttemptMove, IsMatched, entry_of_past}
 use Rattle.mk_agreement.specs.Moves.AttemptMove.{AttemptStays, AttemptChanges}
@@ -28,12 +24,11 @@ use Rattle.mk_agreement.specs.Moves.AttemptChange.{EndsReading}
 use Rattle.mk_agreement.specs.Moves.TakeoverMove.{TakeoverStays}
 use Rattle.mk_agreement.specs.Moves.EntryMove.{EntryStays}
 use Rattle.mk_agreement.specs.Moves.WorkMove.{WorkRests}
-use Rattle.mk_agreement.specs.Facts.{Facts, RoundFacts, Grows}
-use Rattle.mk_agreement.proofs.Lookups.{find-change}
+use Rattle.mk_agreement.specs.Facts.{Facts}
 use Rattle.mk_agreement.proofs.SortedEntries.{matched_kept, same_or_not}
-use Rattle.mk_agreement.proofs.SortedSteps.{StepSorted, steps_sorted}
+use Rattle.mk_agreement.proofs.SortedSteps.{steps_sorted}
 use Rattle.mk_agreement.proofs.SortedLearnings.{step_moves}
-use Rattle.mk_agreement.proofs.Growing.{grows, AttemptGrows-same, TakeoverGrows-same, EntryGrows-same}
+use Rattle.mk_agreement.proofs.Growing.{grows}
 use Rattle.mk_agreement.proofs.KeptAll.{kept}
 
 -- ---- a step

@@ -1,5 +1,5 @@
 -- What each step does to the attempts.
-use Rattle.std.proofs.Common.{◌≡◌, ◌∙◌, ℕ, Bool, true, false, refl, arith, inl, inr, ◌*◌, add-one, sym, ap, subst, List, [], ◌∷◌, ◌++◌, Option, Some, None, not, ◌||◌}
+use Rattle.std.proofs.Common.{◌≡◌, ◌∙◌, ℕ, Bool, true, false, refl, arith, inl, ◌*◌, add-one, sym, ap, subst, List, [], ◌∷◌, ◌++◌, Option, Some, None, not, ◌||◌}
 use Rattle.std.specs.Prelude.{option_map, find, is_some, is_none, ◌==◌, ◌-◌, nat_le, slice_get, if◌then◌else◌}
 use Rattle.std.proofs.lemmas.Bool.Decides.{nat_tests}
 use Rattle.mk_lists.specs.Among.{Among, Among-append_right}
@@ -13,7 +13,6 @@ use Rattle.mk_txn.specs.Transactions.{Transaction, same_id}
 use Rattle.mk_cell.specs.declared.Answer.{Answer}
 use Rattle.mk_msg.specs.declared.Msg.{Msg}
 use Rattle.mk_msg.specs.Links.{message, goes_to_replica}
-use Rattle.mk_quorum.specs.Slots.{passes}
 use Rattle.mk_coord.specs.declared.Ruling.{Ruling}
 use Rattle.mk_coord.specs.declared.Ruling.TheVariants.{Fast, Propose, Learned, Short, Unaccepted}
 use Rattle.mk_coord.specs.Rulings.{ruling, new_coord}
@@ -24,7 +23,7 @@ use Rattle.mk_valid.specs.Checks.{KeyAct}
 use Rattle.mk_valid.specs.Validations.{ValidationState, next_act, after_answer}
 use Rattle.mk_column.specs.declared.Step.{Step}
 use Rattle.mk_column.specs.declared.Step.TheVariants.{Begin, Unread, Read, Stamp, Validate, Take, Key, Rule, Again, Takeover, Pick as PickStep, Stop}
-use Rattle.mk_column.specs.ColumnState.{ColumnState, AttemptState, TakeoverOf, ClientState, Work, attempt_of, takeover_of, client_of, is_attempt, to_all, Learning}
+use Rattle.mk_column.specs.ColumnState.{ColumnState, AttemptState, ClientState, Work, attempt_of, takeover_of, client_of, is_attempt, to_all, Learning}
 use Rattle.mk_column.specs.ColumnState.Work.{Idle, Fetching, Validating, Finishing}
 use Rattle.mk_column.specs.Conditions.{conditions}
 use Rattle.mk_column.specs.Answers.{attempt_answered, listens, is_led}
@@ -39,7 +38,7 @@ use Rattle.mk_agreement.specs.Moments.{Moment}
 use Rattle.mk_agreement.specs.Moves.{AttemptMove, AttemptChange}
 use Rattle.mk_agreement.specs.Moves.AttemptMove.{AttemptStays, AttemptBegins, AttemptChanges}
 use Rattle.mk_agreement.specs.Moves.AttemptChange.{Reads, Stamps, RulesFast, RulesLearned, Proposes, Hears, Stops}
-use Rattle.mk_agreement.proofs.Lookups.{same_id-tells, same_id-itself, find-change, find-change_other, find-push_kept, find-pushed, find-push_other, find-passes, there, none_from, some_same, member-slice_get, apart_ids}
+use Rattle.mk_agreement.proofs.Lookups.{same_id-tells, find-change, find-change_other, find-push_kept, find-pushed, find-push_other, find-passes, there, none_from, some_same, member-slice_get, apart_ids}
 
 -- the number of an attempt that is found
 pub attempt_id : (column : ColumnState) (id : TxnId) (a : AttemptState) → attempt_of column id ≡ Some a → a.id ≡ id

@@ -4,7 +4,6 @@ use Rattle.std.specs.Prelude.{option_map, option_and_then, slice_get, slice_set,
 use Rattle.mk_lists.specs.Among.{Among}
 use Rattle.mk_txn.specs.declared.TxnId.{TxnId}
 use Rattle.mk_txn.specs.declared.Vote.{Vote}
-use Rattle.mk_txn.specs.declared.Outcome.{Outcome}
 use Rattle.mk_txn.specs.Transactions.{Transaction, same_id}
 use Rattle.mk_cell.specs.declared.Answer.{Answer}
 use Rattle.mk_record.specs.declared.Entry.{Entry}
@@ -15,22 +14,21 @@ use Rattle.mk_msg.specs.declared.Body.TheVariants.{Voted, Accept, Accepted as Ac
 use Rattle.mk_quorum.specs.Sizes.{members}
 use Rattle.mk_valid.specs.Checks.{KeyAct}
 use Rattle.mk_valid.specs.Validations.{ValidationState, next_act, after_answer, vote_of}
-use Rattle.mk_merge.specs.declared.ReplicaView.{ReplicaView}
 use Rattle.mk_column.specs.declared.Step.{Step}
-use Rattle.mk_column.specs.ColumnState.{ColumnState, AttemptState, Work, attempt_of, entries_at}
-use Rattle.mk_column.specs.ColumnState.Work.{Idle, Fetching, Validating, Finishing}
+use Rattle.mk_column.specs.ColumnState.{ColumnState, AttemptState, attempt_of, entries_at}
+use Rattle.mk_column.specs.ColumnState.Work.{Idle, Validating}
 use Rattle.mk_trim.specs.KeptOutcomes.{known_of}
 use Rattle.mk_column.specs.Replicas.{Reaction, reply, told_of, reaction_by_view, reacted, serves, held_at, finishing}
 use Rattle.mk_column.specs.Learnings.{learned_in_step, txn_of}
 use Rattle.mk_column.specs.Steps.{replica_takes, validated, voted_msg}
 use Rattle.mk_agreement.specs.Moments.{Moment, PastEntry, Taught, remembered, remembered_from, past_after}
 use Rattle.mk_agreement.specs.Messages.{Sent, msg_of}
-use Rattle.mk_agreement.specs.Moves.{EntryMove, Newborn, WorkMove, IsStampedIn, ServesAttempt, IsMatched, past_opened, past_or_opened, undated, entry_of_past}
+use Rattle.mk_agreement.specs.Moves.{EntryMove, Newborn, WorkMove, IsStampedIn, ServesAttempt, IsMatched, past_opened, past_or_opened, entry_of_past}
 use Rattle.mk_agreement.specs.Moves.EntryMove.{EntryStays, EntryOpens, EntryVotes, EntryPromises, EntryAccepts, EntryFinishes}
 use Rattle.mk_agreement.specs.Moves.Newborn.{VoteSent, AcceptedSent, FinalToldSent, PromiseSent, MovedSent}
 use Rattle.mk_agreement.specs.Moves.WorkMove.{WorkRests, WorkFinishes, WorkValidates}
 use Rattle.mk_agreement.specs.Facts.{Facts, WorkFacts}
-use Rattle.mk_agreement.proofs.Lookups.{same_id-tells, same_id-itself, some_same, entry_of-change, entry_of-change_other}
+use Rattle.mk_agreement.proofs.Lookups.{same_id-tells, some_same, entry_of-change, entry_of-change_other}
 use Rattle.mk_agreement.proofs.Histories.{remembered-same, matched-stays, remembered-promise, remembered-accepted, remembered-last, undated-none, undated-some}
 use Rattle.mk_agreement.proofs.Reactions.{ReactionKind, view_reacts}
 use Rattle.mk_agreement.proofs.Reactions.ReactionKind.{Quiet, BeginsValidation, VotesAgain, TellsFinal, PromisesView, AcceptsOutcome, Finishes, TellsMoved}
@@ -364,8 +362,7 @@ module _ (taught : Taught) (m : Moment) (h : Facts taught m) (step : Step) where
         (ap (λ (o : Option PastEntry). remembered_from m.past.now o (with_vote w (opened txn))) facts.0) refl in
         let s = facts.1.0 in
         subst (λ (x : Msg). (x.replica < members m.round.faults) × IsStampedIn (moment_with m step (validated txn r ep (after_answer state answer) None m.column)) x.id x.epoch
-        × Newborn m (moment_with m step (validated txn r ep (after_answer state answer) None m.column)) x) e
-        (
+        × Newborn m (moment_with m step (validated txn r ep (after_answer state answer) None m.column)) x) e (
           facts.2,
           record { attempt = s.attempt; found = s.found; stamped = ap is_some s.stamped; same_epoch = facts.1.1 },
           VoteSent after w m.past.now refl k.0 refl,

@@ -1,15 +1,14 @@
 -- What is learned in each step, with its reason; and all that a step does.
-use Rattle.std.proofs.Common.{◌≡◌, ◌⊎◌, ◌<◌, ◌≤◌, ◌∙◌, ℕ, Bool, true, false, refl, arith, inl, inr, sym, ap, subst, List, [], ◌∷◌, ◌++◌, Option, Some, None}
-use Rattle.std.specs.Prelude.{option_map, find, is_none, if◌then◌else◌}
+use Rattle.std.proofs.Common.{◌≡◌, ◌∙◌, ℕ, true, refl, arith, inl, inr, sym, ap, subst, List, [], ◌∷◌, Option, Some, None}
+use Rattle.std.specs.Prelude.{option_map, find, is_none}
 use Rattle.mk_quorum.specs.Slots.{passes}
 use Rattle.mk_lists.specs.Among.{Among, Among-append, Among-append_left}
 use Rattle.mk_lists.specs.Changed.{change}
 use Rattle.mk_txn.specs.declared.TxnId.{TxnId}
 use Rattle.mk_txn.specs.declared.Outcome.{Outcome}
-use Rattle.mk_txn.specs.Transactions.{same_id}
 use Rattle.mk_msg.specs.declared.Msg.{Msg}
 use Rattle.mk_msg.specs.declared.Body.{Body}
-use Rattle.mk_msg.specs.declared.Body.TheVariants.{Validate as ValidateBody, Accept, Decide, Ask, Told as ToldBody, Moved as MovedBody}
+use Rattle.mk_msg.specs.declared.Body.TheVariants.{Decide, Told as ToldBody, Moved as MovedBody}
 use Rattle.mk_msg.specs.Links.{message}
 use Rattle.mk_coord.specs.declared.Ruling.{Ruling}
 use Rattle.mk_coord.specs.declared.Ruling.TheVariants.{Fast, Propose, Learned, Short, Unaccepted}
@@ -18,13 +17,13 @@ use Rattle.mk_takeover.specs.declared.Pick.{Pick}
 use Rattle.mk_takeover.specs.declared.Pick.TheVariants.{Known, Learned as PickLearned, Propose as PickPropose, Short as PickShort, Unaccepted as PickUnaccepted, Unclear}
 use Rattle.mk_takeover.specs.Picks.{pick}
 use Rattle.mk_column.specs.declared.Step.{Step}
-use Rattle.mk_column.specs.declared.Step.TheVariants.{Begin, Unread, Read, Stamp, Validate, Take, Key, Rule, Again, Takeover, Pick as PickStep, Stop}
-use Rattle.mk_column.specs.ColumnState.{ColumnState, AttemptState, TakeoverOf, Learning, Way, attempt_of, takeover_of, is_attempt}
-use Rattle.mk_column.specs.ColumnState.Way.{ByVotes, ByAccepts, ByPick, ByMoved, ByTelling, ByFinishing}
+use Rattle.mk_column.specs.declared.Step.TheVariants.{Take, Rule, Pick as PickStep}
+use Rattle.mk_column.specs.ColumnState.{AttemptState, TakeoverOf, Learning, Way, attempt_of, takeover_of, is_attempt}
+use Rattle.mk_column.specs.ColumnState.Way.{ByMoved, ByTelling, ByFinishing}
 use Rattle.mk_column.specs.Conditions.{conditions, blocked}
 use Rattle.mk_column.specs.Answers.{moved_outcome}
 use Rattle.mk_column.specs.Learnings.{learning, learning_of, by_rule, by_ruling, by_takeover, by_pick, by_taken, by_message, is_finished_by, is_heard, learned_in_step}
-use Rattle.mk_column.specs.Steps.{stepped, ruled, taught as having_learned, on_some}
+use Rattle.mk_column.specs.Steps.{ruled, taught as having_learned, on_some}
 use Rattle.mk_column.proofs.Frames.{AllTrue, either_way, enabled}
 use Rattle.mk_agreement.specs.Moments.{Moment, Taught, step_done}
 use Rattle.mk_agreement.specs.Moves.{Moves, NewLearning}
@@ -34,7 +33,7 @@ use Rattle.mk_agreement.proofs.Lookups.{find-change, none_from}
 use Rattle.mk_agreement.proofs.SortedAttempts.{attempt_id, own_number, message_among, attempts_sorted}
 use Rattle.mk_agreement.proofs.SortedTakeovers.{takeovers_sorted}
 use Rattle.mk_agreement.proofs.SortedEntries.{sent_as}
-use Rattle.mk_agreement.proofs.SortedSteps.{StepSorted, steps_sorted}
+use Rattle.mk_agreement.proofs.SortedSteps.{steps_sorted}
 
 module _ (m : Moment) where
   abbrev LearnsRight : Step → Learning → Type 0

@@ -1,9 +1,9 @@
 -- What each step does to entries, messages and key calls, and what is learned in it.
-use Rattle.std.proofs.Common.{◌≡◌, ◌⊎◌, ◌<◌, ◌≤◌, ◌∙◌, ℕ, zero, suc, ◌+◌, Bool, true, false, refl, arith, inl, inr, sym, ap, subst, List, [], ◌∷◌, ◌++◌, Option, Some, None, length-set, map, ◌&&◌}
-use Rattle.std.specs.Prelude.{option_map, find, is_some, is_none, ◌==◌, slice_get, slice_index_or, length, nat_le}
+use Rattle.std.proofs.Common.{◌≡◌, ◌⊎◌, ◌<◌, ◌≤◌, ◌∙◌, ℕ, zero, suc, ◌+◌, Bool, true, false, refl, arith, inl, inr, sym, ap, subst, List, [], ◌∷◌, ◌++◌, Option, Some, None, length-set, map}
+use Rattle.std.specs.Prelude.{option_map, find, is_some, is_none, ◌==◌, slice_index_or, length}
 use Rattle.std.proofs.lemmas.Bool.Decides.{nat_tests}
 use Rattle.std.specs.List.{list_any}
-use Rattle.mk_lists.specs.Among.{Among, Among-append, Among-append_right}
+use Rattle.mk_lists.specs.Among.{Among, Among-append_right}
 use Rattle.mk_lists.specs.Changed.{change}
 use Rattle.mk_txn.specs.declared.TxnId.{TxnId}
 use Rattle.mk_txn.specs.declared.Stamp.{Stamp as StampType}
@@ -17,7 +17,7 @@ use Rattle.mk_record.specs.declared.Entry.{Entry}
 use Rattle.mk_record.specs.Entries.{entry_of}
 use Rattle.mk_msg.specs.declared.Msg.{Msg}
 use Rattle.mk_msg.specs.declared.Body.{Body}
-use Rattle.mk_msg.specs.declared.Body.TheVariants.{Validate as ValidateBody, Accept, Decide, Ask, Told as ToldBody, Moved as MovedBody}
+use Rattle.mk_msg.specs.declared.Body.TheVariants.{Validate as ValidateBody, Accept, Decide, Ask}
 use Rattle.mk_msg.specs.Links.{message, goes_to_replica}
 use Rattle.mk_quorum.specs.Sizes.{members}
 use Rattle.mk_coord.specs.declared.Ruling.{Ruling}
@@ -32,24 +32,22 @@ use Rattle.mk_column.specs.declared.Step.{Step}
 use Rattle.mk_column.specs.declared.Step.TheVariants.{Begin, Unread, Read, Stamp, Validate, Take, Key, Rule, Again, Takeover, Pick as PickStep, Stop}
 use Rattle.mk_column.specs.ColumnState.{ColumnState, AttemptState, TakeoverOf, Work, Learning, attempt_of, takeover_of, client_of, is_attempt, is_takeover, to_all, numbers_from, mark_sent, send}
 use Rattle.mk_column.specs.ColumnState.Work.{Idle, Fetching, Validating, Finishing}
-use Rattle.mk_column.specs.ColumnState.Way.{ByVotes, ByAccepts, ByPick, ByMoved, ByTelling, ByFinishing}
+use Rattle.mk_column.specs.ColumnState.Way.{ByVotes}
 use Rattle.mk_column.specs.Conditions.{conditions, is_idle, is_validate_of}
 use Rattle.mk_column.specs.Replicas.{finishing}
-use Rattle.mk_column.specs.Answers.{listens, is_led, moved_outcome}
-use Rattle.mk_column.specs.Learnings.{learning, learning_of, txn_of, by_rule, by_ruling, by_takeover, by_taken, by_message, is_finished_by, is_heard, learned_in_step}
-use Rattle.mk_column.specs.Steps.{stepped, stamped, ruled, picked, proposing, taught as having_learned, closing, takeover_proposing, taken, replica_takes, answered, validated, sent_again, taken_over, on_some}
+use Rattle.mk_column.specs.Answers.{listens, is_led}
+use Rattle.mk_column.specs.Learnings.{learning, txn_of, by_rule, by_ruling, learned_in_step}
+use Rattle.mk_column.specs.Steps.{stepped, stamped, ruled, picked, proposing, taught as having_learned, takeover_proposing, taken, replica_takes, answered, validated, taken_over}
 use Rattle.mk_column.proofs.Frames.{AllTrue, on_some-keeps, either_way}
-use Rattle.mk_agreement.specs.Moments.{Moment, PastEntry, Taught}
+use Rattle.mk_agreement.specs.Moments.{Moment, Taught}
 use Rattle.mk_agreement.specs.Messages.{msg_of}
-use Rattle.mk_agreement.specs.Moves.{EntryMove, Newborn, WorkMove, NewLearning, IsStampedIn}
-use Rattle.mk_agreement.specs.Moves.EntryMove.{EntryStays}
+use Rattle.mk_agreement.specs.Moves.{Newborn, WorkMove, IsStampedIn}
 use Rattle.mk_agreement.specs.Moves.Newborn.{ValidateSent, AskSent, ProposalSent, FastSent, LearnedSent, KnownSent, PickSent}
 use Rattle.mk_agreement.specs.Moves.WorkMove.{WorkRests, WorkFetches, WorkGoesOn, WorkFinishes}
-use Rattle.mk_agreement.specs.Moves.NewLearning.{LearnsFast, LearnsByAccepts, LearnsKnown, LearnsByPick, LearnsTold, LearnsMoved, LearnsFinishing}
 use Rattle.mk_agreement.specs.Facts.{Facts}
-use Rattle.mk_agreement.proofs.Lookups.{same_id-itself, same_id-tells, and_right, some_same, there, none_from, and_left, find-change, find-pushed}
+use Rattle.mk_agreement.proofs.Lookups.{same_id-itself, same_id-tells, and_right, some_same, there, none_from, find-change, find-pushed}
 use Rattle.mk_agreement.proofs.SortedAttempts.{attempt_id, own_number, message_among}
-use Rattle.mk_agreement.proofs.SortedEntries.{moment_with, sent_as, EntrySorted, entry_untouched, entries_stay, replica_sorted, replica_sends, replica_works, validated_sorted, validated_sends}
+use Rattle.mk_agreement.proofs.SortedEntries.{moment_with, EntrySorted, entry_untouched, entries_stay, replica_sorted, replica_sends, replica_works, validated_sorted, validated_sends}
 
 idle_from : (w : Work) → is_idle w ≡ true → w ≡ Idle
 idle_from Idle e = refl

@@ -1,13 +1,12 @@
 -- What each step does to the takeovers.
 use Rattle.std.proofs.Common.{◌≡◌, ◌≤◌, ◌∙◌, ℕ, Bool, true, false, refl, arith, sym, ap, subst, List, [], ◌∷◌, ◌++◌, Option, Some, None, ◌&&◌}
-use Rattle.std.specs.Prelude.{option_map, find, is_some, is_none, ◌==◌, nat_le, slice_get}
+use Rattle.std.specs.Prelude.{option_map, find, is_some, ◌==◌}
 use Rattle.std.proofs.lemmas.Bool.Decides.{nat_tests}
 use Rattle.mk_lists.specs.Among.{Among, Among-append_right}
 use Rattle.mk_lists.specs.Changed.{change}
 use Rattle.mk_txn.specs.declared.TxnId.{TxnId}
 use Rattle.mk_txn.specs.declared.Stamp.{Stamp as StampType}
 use Rattle.mk_txn.specs.declared.WriteItem.{WriteItem}
-use Rattle.mk_txn.specs.declared.Outcome.{Outcome}
 use Rattle.mk_txn.specs.Stamps.{next_stamp_of}
 use Rattle.mk_txn.specs.Transactions.{Transaction, same_id}
 use Rattle.mk_txn.proofs.ClashFacts.{member-from_list_any}
@@ -38,7 +37,7 @@ use Rattle.mk_agreement.specs.Moments.{Moment}
 use Rattle.mk_agreement.specs.Moves.{TakeoverMove, TakeoverChange, IsStampedIn}
 use Rattle.mk_agreement.specs.Moves.TakeoverMove.{TakeoverStays, TakeoverBegins, TakeoverChanges}
 use Rattle.mk_agreement.specs.Moves.TakeoverChange.{Picks, Closes, TakeoverHears}
-use Rattle.mk_agreement.proofs.Lookups.{same_id-tells, find-change, find-change_other, find-push_kept, find-pushed, find-push_other, find-passes, some_same, apart_views, eqb-tells, and_left, and_right}
+use Rattle.mk_agreement.proofs.Lookups.{same_id-tells, find-change, find-change_other, find-push_kept, find-pushed, find-push_other, some_same, apart_views, eqb-tells, and_left, and_right}
 use Rattle.mk_agreement.proofs.SortedAttempts.{attempt_id, message_among, with_learned, first_of_all}
 
 -- an answer leaves the number and the view of a takeover

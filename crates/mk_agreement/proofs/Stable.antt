@@ -1,12 +1,10 @@
 -- What a column's facts rest on only grows, so the facts stay.
-use Rattle.std.proofs.Common.{◌≡◌, ◌⊎◌, ◌<◌, ◌≤◌, ◌∙◌, ℕ, Bool, true, false, refl, arith, inl, inr, sym, ap, subst, List, Option, Some, None, ◌&&◌}
-use Rattle.std.specs.Prelude.{nat_le, is_some}
+use Rattle.std.proofs.Common.{◌≡◌, ◌≤◌, ◌∙◌, ℕ, true, refl, arith, inl, inr, sym, ap, subst, List, Option, Some, None}
+use Rattle.std.specs.Prelude.{is_some}
 use Rattle.std.proofs.lemmas.Bool.Decides.{nat_tests}
 use Rattle.mk_txn.specs.declared.TxnId.{TxnId}
 use Rattle.mk_txn.specs.declared.Vote.{Vote}
-use Rattle.mk_txn.specs.declared.Accepted.{Accepted}
 use Rattle.mk_txn.specs.declared.Outcome.{Outcome}
-use Rattle.mk_txn.specs.Outcomes.{is_ok_vote, is_commit}
 use Rattle.mk_txn.specs.Transactions.{Transaction}
 use Rattle.mk_msg.specs.declared.Told.{Told}
 use Rattle.mk_msg.specs.declared.Msg.{Msg}
@@ -19,12 +17,12 @@ use Rattle.mk_coord.specs.declared.Ruling.TheVariants.{Fast, Propose}
 use Rattle.mk_coord.specs.Rulings.{by_votes}
 use Rattle.mk_takeover.specs.declared.Pick.TheVariants.{Propose as PickPropose}
 use Rattle.mk_takeover.specs.Picks.{by_promises}
-use Rattle.mk_column.specs.ColumnState.{AttemptState, TakeoverOf, attempt_of, takeover_of}
+use Rattle.mk_column.specs.ColumnState.{AttemptState, TakeoverOf, attempt_of}
 use Rattle.mk_agreement.specs.Moments.{Moment, PastEntry, Taught, StaysTaught, past_vote}
-use Rattle.mk_agreement.specs.Messages.{Sent, Proposed, VotesIn, RepliesIn, IsReply, taking_over, msg_of}
+use Rattle.mk_agreement.specs.Messages.{Sent, Proposed, VotesIn, RepliesIn, taking_over, msg_of}
 use Rattle.mk_agreement.specs.Decided.{IsDecided, IsChosen, has_accepted}
 use Rattle.mk_agreement.specs.Moves.{HasProposed, IsStampedIn}
-use Rattle.mk_agreement.specs.Facts.{Grows, IsBacked, IsSupported, IsTaught, IsSealed, IsPromise, ToldFacts, AcceptFacts, Says, AttemptFacts, TakeoverFacts, EntryFacts, FastFacts, is_ok_by}
+use Rattle.mk_agreement.specs.Facts.{Grows, IsBacked, IsSupported, IsTaught, IsPromise, ToldFacts, AcceptFacts, Says, AttemptFacts, TakeoverFacts, EntryFacts, FastFacts, is_ok_by}
 use Rattle.mk_agreement.proofs.Choices.{accept_sent}
 use Rattle.mk_agreement.proofs.Growing.{none_there}
 use Rattle.mk_agreement.proofs.Decisions.{accept_counted}
@@ -46,11 +44,10 @@ module _ (taught : Taught) (stays : StaysTaught taught) (m next : Moment) (g : G
   has_accepted-grows id v r e = accept_counted next.column.link id v r (Sent-grows id r v AcceptedBody (accept_sent m.column.link id v r e))
 
   pub IsChosen-grows : (f : ℕ) (id : TxnId) (v : ℕ) (o : Outcome) → IsChosen f m.column.link id v o → IsChosen f next.column.link id v o
-  IsChosen-grows f id v o c =
-      (
-        Proposed-grows id v o c.0,
-        omega (arith, c.1, count_below-weaker (members f) (has_accepted m.column.link id v) (has_accepted next.column.link id v) (λ r lt e. has_accepted-grows id v r e)),
-      )
+  IsChosen-grows f id v o c = (
+    Proposed-grows id v o c.0,
+    omega (arith, c.1, count_below-weaker (members f) (has_accepted m.column.link id v) (has_accepted next.column.link id v) (λ r lt e. has_accepted-grows id v r e)),
+  )
 
   pub IsDecided-grows : (id : TxnId) (o : Outcome) → IsDecided m.round.faults m.column id o → IsDecided next.round.faults next.column id o
   IsDecided-grows id o d = subst (λ (f : ℕ). IsDecided f next.column id o) (sym g.same_faults) (by d)
@@ -79,8 +76,12 @@ module _ (taught : Taught) (stays : StaysTaught taught) (m next : Moment) (g : G
   pub IsSupported-grows : (id : TxnId) (i j : ℕ) → i ≤ j → IsSupported m id i → IsSupported next id j
   IsSupported-grows id i j le s =
       subst (λ (f : ℕ). majority_of f ≤ count_below (members f) (λ r. is_ok_by j (past_vote (next.past.entries r id)))) (sym g.same_faults)
-      (omega (arith, s, count_below-weaker (members m.round.faults) (λ r. is_ok_by i (past_vote (m.past.entries r id))) (λ r. is_ok_by j (past_vote (next.past.entries r id)))
-      (λ r lt e. ok_by-grows id i j r le e)))
+      (omega (
+        arith,
+        s,
+        count_below-weaker (members m.round.faults) (λ r. is_ok_by i (past_vote (m.past.entries r id))) (λ r. is_ok_by j (past_vote (next.past.entries r id)))
+            (λ r lt e. ok_by-grows id i j r le e),
+      ))
 
   pub IsTaught-grows : (id : TxnId) (o : Outcome) (i j : ℕ) → i ≤ j → IsTaught taught m id o i → IsTaught taught next id o j
   IsTaught-grows id o i j le t =

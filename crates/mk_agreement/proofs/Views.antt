@@ -1,19 +1,15 @@
 -- From what holds at a moment: the messages are orderly, and commits have their Ok votes.
-use Rattle.std.proofs.Common.{◌≡◌, ◌⊎◌, ◌<◌, ◌≤◌, ◌∙◌, ℕ, zero, suc, Bool, true, false, refl, arith, inl, inr, sym, ap, subst, List, Option, Some, None, cond}
+use Rattle.std.proofs.Common.{◌≡◌, ◌<◌, ◌≤◌, ◌∙◌, ℕ, zero, suc, Bool, true, false, refl, arith, inl, inr, sym, ap, subst, List, Option, Some, None, cond}
 use Rattle.std.specs.Prelude.{nat_le, nat_lt}
 use Rattle.std.proofs.lemmas.Bool.Decides.{nat_tests}
-use Rattle.mk_lists.specs.Among.{Among}
 use Rattle.mk_txn.specs.declared.TxnId.{TxnId}
 use Rattle.mk_txn.specs.declared.Vote.{Vote}
-use Rattle.mk_txn.specs.declared.Vote.TheVariants.{Ok as VoteOk, Abort as VoteAbort}
-use Rattle.mk_txn.specs.declared.Accepted.{Accepted}
+use Rattle.mk_txn.specs.declared.Vote.TheVariants.{Ok as VoteOk}
 use Rattle.mk_txn.specs.declared.Outcome.{Outcome}
 use Rattle.mk_txn.specs.declared.Outcome.TheVariants.{Commit, Abort}
 use Rattle.mk_txn.specs.Outcomes.{is_ok_vote, is_commit}
 use Rattle.mk_msg.specs.declared.Told.{Told}
-use Rattle.mk_msg.specs.declared.Msg.{Msg}
-use Rattle.mk_msg.specs.declared.Body.TheVariants.{Voted, Accept, Accepted as AcceptedBody, Told as ToldBody}
-use Rattle.mk_quorum.specs.Counts.{count_below}
+use Rattle.mk_msg.specs.declared.Body.TheVariants.{Voted, Accept, Told as ToldBody}
 use Rattle.mk_quorum.specs.Sizes.{members, majority_of, fast_of}
 use Rattle.mk_quorum.specs.Slots.{slot, passes, count_slots}
 use Rattle.mk_quorum.proofs.Counting.{count_below-weaker}
@@ -21,12 +17,12 @@ use Rattle.mk_coord.specs.declared.Ruling.TheVariants.{Fast, Propose, Short}
 use Rattle.mk_coord.specs.Rulings.{by_votes, is_abort_vote, any_vote, first_refusal}
 use Rattle.mk_takeover.specs.declared.Pick.TheVariants.{Propose as PickPropose}
 use Rattle.mk_takeover.specs.Picks.{by_promises, is_ok_promise}
-use Rattle.mk_column.specs.ColumnState.{AttemptState, TakeoverOf, attempt_of, takeover_of}
+use Rattle.mk_column.specs.ColumnState.{AttemptState, TakeoverOf}
 use Rattle.mk_agreement.specs.Moments.{Moment, PastEntry, Taught, past_vote}
 use Rattle.mk_agreement.specs.Messages.{Sent, Proposed, VotesIn, RepliesIn, taking_over, msg_of}
 use Rattle.mk_agreement.specs.Decided.{IsDecided}
 use Rattle.mk_agreement.specs.Moves.{HasProposed}
-use Rattle.mk_agreement.specs.Facts.{Facts, ToldFacts, FastFacts, IsSupported, is_ok_by}
+use Rattle.mk_agreement.specs.Facts.{Facts, ToldFacts, IsSupported, is_ok_by}
 use Rattle.mk_agreement.proofs.Lookups.{some_same, passes-some}
 use Rattle.mk_agreement.proofs.Orderly.{IsOrderly}
 use Rattle.mk_agreement.proofs.Choices.{by_promises-propose, by_votes-fast, first_refusal-abort, highest_proposed, ok_vote-is, ok_promise-votes}
@@ -140,21 +136,29 @@ module _ (taught : Taught) (m : Moment) (h : Facts taught m) where
 
   votes_support : (id : TxnId) (votes : List (Option Vote)) → VotesIn m.column.link id votes → majority_of m.round.faults ≤ count_slots (members m.round.faults) is_ok_vote votes → IsSupported m id m.past.now
   votes_support id votes voted enough =
-      omega (arith, enough, count_below-weaker (members m.round.faults) (λ r. passes is_ok_vote (slot votes r)) (λ r. is_ok_by m.past.now (past_vote (m.past.entries r id)))
-      (λ r lt e. let v = passes-some is_ok_vote (slot votes r) e in
-      let x = voted_says id r VoteOk (subst (λ (y : Vote). Sent m.column.link id r 0 (Voted y)) (ok_vote-is v.0 v.2) (voted r v.0 v.1)) in
-      ok_by_now r id x.0 x.2.0 x.1 x.2.1))
+      omega (
+        arith,
+        enough,
+        count_below-weaker (members m.round.faults) (λ r. passes is_ok_vote (slot votes r)) (λ r. is_ok_by m.past.now (past_vote (m.past.entries r id)))
+            (λ r lt e. let v = passes-some is_ok_vote (slot votes r) e in
+            let x = voted_says id r VoteOk (subst (λ (y : Vote). Sent m.column.link id r 0 (Voted y)) (ok_vote-is v.0 v.2) (voted r v.0 v.1)) in
+            ok_by_now r id x.0 x.2.0 x.1 x.2.1),
+      )
 
   replies_support : (id : TxnId) (v : ℕ) (replies : List (Option Told)) → RepliesIn m.column.link id v replies → majority_of m.round.faults ≤ count_slots (members m.round.faults) is_ok_promise replies →
       IsSupported m id m.past.now
   replies_support id v replies replied enough =
-      omega (arith, enough, count_below-weaker (members m.round.faults) (λ r. passes is_ok_promise (slot replies r)) (λ r. is_ok_by m.past.now (past_vote (m.past.entries r id)))
-      (λ r lt e. let t = passes-some is_ok_promise (slot replies r) e in
-      let reply = replied r t.0 t.1 in
-      let f = told_says id r v t.0 reply.sent in
-      let w = passes-some is_ok_vote t.0.vote (ok_promise-votes t.0 t.2) in
-      let x = (f.promise reply.not_final).voted w.0 w.1 in
-      ok_by_now r id f.entry x.0 f.found (x.1 ∙ ap (λ (y : Vote). Some (y, x.0)) (ok_vote-is w.0 w.2))))
+      omega (
+        arith,
+        enough,
+        count_below-weaker (members m.round.faults) (λ r. passes is_ok_promise (slot replies r)) (λ r. is_ok_by m.past.now (past_vote (m.past.entries r id)))
+            (λ r lt e. let t = passes-some is_ok_promise (slot replies r) e in
+            let reply = replied r t.0 t.1 in
+            let f = told_says id r v t.0 reply.sent in
+            let w = passes-some is_ok_vote t.0.vote (ok_promise-votes t.0 t.2) in
+            let x = (f.promise reply.not_final).voted w.0 w.1 in
+            ok_by_now r id f.entry x.0 f.found (x.1 ∙ ap (λ (y : Vote). Some (y, x.0)) (ok_vote-is w.0 w.2))),
+      )
 
   pub proposal_supported : (bound v : ℕ) (id : TxnId) (o : Outcome) → v < bound → Proposed m.column.link id v o → is_commit o ≡ true → IsSupported m id m.past.now
   proposal_supported zero v id o l p c = absurd (omega (arith, l))
@@ -169,9 +173,9 @@ module _ (taught : Taught) (m : Moment) (h : Facts taught m) where
             let earlier = highest_proposed m.round.faults m.column.link orderly id (suc v) just.0 just.1 a.0 a.1 in
             proposal_supported bound a.0.view id a.0.outcome (omega (arith, l, earlier.1)) earlier.0 (subst (λ (x : Outcome). is_commit x ≡ true) (sym a.2) c)
         | inr n ↦ elim n.1 [
-            | inl k ↦ replies_support id (suc v) just.0 just.1 k.0
-            | inr k ↦ absurd (let t : is_commit (Abort k.1.0) ≡ true = subst (λ (x : Outcome). is_commit x ≡ true) k.1.1 c in cc t)
-          ]
+          | inl k ↦ replies_support id (suc v) just.0 just.1 k.0
+          | inr k ↦ absurd (let t : is_commit (Abort k.1.0) ≡ true = subst (λ (x : Outcome). is_commit x ≡ true) k.1.1 c in cc t)
+        ]
       ]
 
   pub fast_supported : (id : TxnId) (votes : List (Option Vote)) (o : Outcome) → VotesIn m.column.link id votes → by_votes m.round.faults votes ≡ Fast o → is_commit o ≡ true → IsSupported m id m.past.now

@@ -8,7 +8,6 @@ use Rattle.mk_txn.specs.declared.Outcome.{Outcome}
 use Rattle.mk_txn.specs.Outcomes.{is_ok_vote, is_commit}
 use Rattle.mk_txn.specs.Transactions.{Transaction}
 use Rattle.mk_msg.specs.declared.Told.{Told}
-use Rattle.mk_msg.specs.declared.Moved.{Moved}
 use Rattle.mk_msg.specs.declared.Msg.{Msg}
 use Rattle.mk_msg.specs.declared.Body.{Body}
 use Rattle.mk_msg.specs.declared.Body.TheVariants.{Validate as ValidateBody, Voted, Accept, Accepted as AcceptedBody, Decide, Ask, Told as ToldBody, Moved as MovedBody}
@@ -23,7 +22,7 @@ use Rattle.mk_takeover.specs.declared.Pick.TheVariants.{Propose as PickPropose}
 use Rattle.mk_takeover.specs.Picks.{by_promises}
 use Rattle.mk_merge.specs.declared.ReplicaView.{ReplicaView}
 use Rattle.mk_column.specs.ColumnState.{AttemptState, TakeoverOf, Work, Learning, attempt_of, takeover_of}
-use Rattle.mk_column.specs.ColumnState.Work.{Idle, Fetching, Validating, Finishing}
+use Rattle.mk_column.specs.ColumnState.Work.{Validating}
 use Rattle.mk_column.specs.ColumnState.Way.{ByVotes}
 use Rattle.mk_column.specs.Replicas.{serves, is_serving}
 use Rattle.mk_column.specs.Answers.{moved_outcome, outcome_after}

@@ -4,3 +4,5 @@ pub mod Messages
 pub mod Decided
 pub mod Moves
 pub mod Facts
+pub mod Laws
+pub mod FirstEpoch

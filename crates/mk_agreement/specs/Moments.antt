@@ -12,7 +12,6 @@ use Rattle.mk_record.specs.declared.Entry.{Entry}
 use Rattle.mk_record.specs.Entries.{entry_of}
 use Rattle.mk_trim.specs.KeptOutcomes.{known_of}
 use Rattle.mk_merge.specs.declared.ReplicaView.{ReplicaView}
-use Rattle.mk_column.specs.declared.KeyCall.{KeyCall}
 use Rattle.mk_column.specs.declared.Step.{Step}
 use Rattle.mk_column.specs.declared.Step.TheVariants.{Key}
 use Rattle.mk_column.specs.ColumnState.{Setting, ColumnState, new_column, entries_at, attempt_of}

@@ -1,5 +1,5 @@
 -- What an event does: to each attempt, takeover and entry, to the messages, the key calls under way, and what is learned.
-use Rattle.std.specs.Prelude.{◌≡◌, ◌⊎◌, ◌<◌, ◌≤◌, ℕ, Bool, true, false, List, [], ◌∷◌, Option, Some, None, is_some, option_map, slice_get}
+use Rattle.std.specs.Prelude.{◌≡◌, ◌⊎◌, ◌<◌, ◌≤◌, ℕ, true, false, List, Option, Some, None, is_some, option_map, slice_get}
 use Rattle.mk_lists.specs.Among.{Among}
 use Rattle.mk_txn.specs.declared.TxnId.{TxnId}
 use Rattle.mk_txn.specs.declared.Stamp.{Stamp}
@@ -24,7 +24,7 @@ use Rattle.mk_coord.specs.declared.Ruling.TheVariants.{Fast, Propose, Learned}
 use Rattle.mk_coord.specs.Rulings.{ruling, new_coord}
 use Rattle.mk_takeover.specs.declared.Pick.TheVariants.{Known, Learned as PickLearned, Propose as PickPropose}
 use Rattle.mk_takeover.specs.Picks.{pick, new_takeover}
-use Rattle.mk_column.specs.ColumnState.{ColumnState, AttemptState, TakeoverOf, ClientState, Work, Way, Learning, attempt_of, takeover_of, client_of, entries_at}
+use Rattle.mk_column.specs.ColumnState.{ColumnState, AttemptState, TakeoverOf, ClientState, Work, Learning, attempt_of, takeover_of, client_of, entries_at}
 use Rattle.mk_column.specs.ColumnState.Work.{Idle, Fetching, Validating, Finishing}
 use Rattle.mk_column.specs.ColumnState.Way.{ByVotes, ByAccepts, ByPick, ByMoved, ByTelling, ByFinishing}
 use Rattle.mk_column.specs.Replicas.{serves, is_serving, told_of}
@@ -33,7 +33,7 @@ use Rattle.mk_column.specs.Learnings.{learning}
 use Rattle.mk_column.specs.Steps.{with_txn, with_read, proposing, taught as having_learned, closing, takeover_proposing}
 use Rattle.mk_column.specs.Logs.{not_reading}
 use Rattle.mk_agreement.specs.Moments.{Moment, PastEntry}
-use Rattle.mk_agreement.specs.Messages.{Sent, Proposed, msg_of}
+use Rattle.mk_agreement.specs.Messages.{Sent, Proposed}
 
 -- ---- attempts
 
