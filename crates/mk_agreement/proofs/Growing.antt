@@ -25,7 +25,7 @@ use Rattle.mk_agreement.specs.Moves.AttemptChange.{EndsReading, Reads, Stamps, R
 use Rattle.mk_agreement.specs.Moves.TakeoverMove.{TakeoverStays, TakeoverBegins, TakeoverChanges}
 use Rattle.mk_agreement.specs.Moves.TakeoverChange.{Picks, Closes, TakeoverHears}
 use Rattle.mk_agreement.specs.Moves.EntryMove.{EntryStays, EntryOpens, EntryVotes, EntryPromises, EntryAccepts, EntryFinishes}
-use Rattle.mk_agreement.specs.Moves.WorkMove.{WorkRests, WorkFetches, WorkValidates, WorkGoesOn, WorkFinishes}
+use Rattle.mk_agreement.specs.Moves.WorkMove.{WorkRests, WorkFetches, WorkValidates, WorkGoesOn, WorkEnds, WorkFinishes}
 use Rattle.mk_agreement.specs.Moves.Newborn.{ValidateSent, AskSent, ProposalSent, FastSent, LearnedSent, KnownSent, PickSent, VoteSent, AcceptedSent, FinalToldSent, PromiseSent, MovedSent}
 use Rattle.mk_agreement.specs.Facts.{Facts, AttemptFacts, Grows, AttemptGrows, TakeoverGrows, EntryGrows}
 use Rattle.mk_agreement.proofs.Lookups.{some_same}
@@ -178,7 +178,8 @@ module _ (taught : Taught) (m next : Moment) (h : Facts taught m) (moves : Moves
       WorkMove m next m.column.work next.column.work → (txn : Transaction) (epoch : ℕ) (state : ValidationState) → next.column.work ≡ Validating txn r epoch state → txn.id ≡ id → ⊥
   still_rests r id e found rest (WorkRests idle) txn epoch state w own = cc (idle, w)
   still_rests r id e found rest (WorkFetches x q key old new) txn epoch state w own = cc (new, w)
-  still_rests r id e found rest (WorkFinishes q left new) txn epoch state w own = cc (new, w)
+  still_rests r id e found rest (WorkFinishes q act left round old new stays) txn epoch state w own = cc (new, w)
+  still_rests r id e found rest (WorkEnds t q x entry o left s round now old there last acts new) txn epoch state w own = cc (new, w)
   still_rests r id e found rest (WorkGoesOn t q ep s answer round old new stays) txn epoch state w own =
       let k = same_validation t txn q r ep epoch _ state (sym new ∙ w) in
       rest t ep s (old ∙ (λ i. Validating t (k.1 i) ep s)) (ap (λ (x : Transaction). x.id) k.0 ∙ own)

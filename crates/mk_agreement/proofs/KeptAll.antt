@@ -22,7 +22,7 @@ use Rattle.mk_agreement.specs.Moments.{Moment, PastEntry, Taught, StaysTaught}
 use Rattle.mk_agreement.specs.Messages.{Sent, Proposed, msg_of}
 use Rattle.mk_agreement.specs.Moves.{Moves, EntryMove, WorkMove, Newborn, NewLearning, ServesAttempt, IsMatched, past_opened, past_or_opened, undated, entry_of_past}
 use Rattle.mk_agreement.specs.Moves.EntryMove.{EntryStays, EntryOpens, EntryVotes, EntryPromises, EntryAccepts, EntryFinishes}
-use Rattle.mk_agreement.specs.Moves.WorkMove.{WorkRests, WorkFetches, WorkValidates, WorkGoesOn, WorkFinishes}
+use Rattle.mk_agreement.specs.Moves.WorkMove.{WorkRests, WorkFetches, WorkValidates, WorkGoesOn, WorkEnds, WorkFinishes}
 use Rattle.mk_agreement.specs.Moves.Newborn.{ValidateSent, AskSent, ProposalSent, FastSent, LearnedSent, KnownSent, PickSent, VoteSent, AcceptedSent, FinalToldSent, PromiseSent, MovedSent}
 use Rattle.mk_agreement.specs.Moves.NewLearning.{LearnsFast, LearnsByAccepts, LearnsKnown, LearnsByPick, LearnsTold, LearnsMoved, LearnsFinishing}
 use Rattle.mk_agreement.specs.Facts.{Facts, EntryFacts, FastFacts, RoundFacts, WorkFacts, ToldFacts, Says, IsBacked}
@@ -265,7 +265,8 @@ module _ (taught : Taught) (stays : StaysTaught taught) (m next : Moment) (h : F
   work_facts : (old new : Work) → m.column.work ≡ old → WorkMove m next old new → WorkFacts next new
   work_facts old new is (WorkRests e) = subst (WorkFacts next) (sym e) tt
   work_facts old new is (WorkFetches id replica key e k) = subst (WorkFacts next) (sym k) tt
-  work_facts old new is (WorkFinishes r left k) = subst (WorkFacts next) (sym k) tt
+  work_facts old new is (WorkFinishes r act left round e k entries) = subst (WorkFacts next) (sym k) tt
+  work_facts old new is (WorkEnds txn r id entry o left s round now e there last acts k) = subst (WorkFacts next) (sym k) tt
   work_facts old new is (WorkValidates txn r epoch served same round lt e none there k) =
       let n = serves_next r txn.id txn served round in
       subst (WorkFacts next) (sym k) (there, (n.0, n.1 ∙ same), subst (λ (f : ℕ). r < members f) (sym moves.same_faults) lt)

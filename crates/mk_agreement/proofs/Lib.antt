@@ -20,3 +20,5 @@ pub mod Rounds
 pub mod Growth
 pub mod TheLaws
 pub mod OneEpoch
+pub mod ActMoves
+pub mod KeptActs

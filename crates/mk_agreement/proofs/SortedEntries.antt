@@ -4,6 +4,7 @@ use Rattle.std.specs.Prelude.{option_map, option_and_then, slice_get, slice_set,
 use Rattle.mk_lists.specs.Among.{Among}
 use Rattle.mk_txn.specs.declared.TxnId.{TxnId}
 use Rattle.mk_txn.specs.declared.Vote.{Vote}
+use Rattle.mk_txn.specs.declared.Outcome.{Outcome}
 use Rattle.mk_txn.specs.Transactions.{Transaction, same_id}
 use Rattle.mk_cell.specs.declared.Answer.{Answer}
 use Rattle.mk_record.specs.declared.Entry.{Entry}
@@ -12,7 +13,9 @@ use Rattle.mk_msg.specs.declared.Msg.{Msg}
 use Rattle.mk_msg.specs.declared.Body.{Body}
 use Rattle.mk_msg.specs.declared.Body.TheVariants.{Voted, Accept, Accepted as AcceptedBody, Decide, Ask, Told as ToldBody, Moved as MovedBody}
 use Rattle.mk_quorum.specs.Sizes.{members}
-use Rattle.mk_valid.specs.Checks.{KeyAct}
+use Rattle.mk_quorum.specs.Slots.{passes}
+use Rattle.mk_txn.specs.Outcomes.{is_ok_vote}
+use Rattle.mk_valid.specs.Checks.{KeyAct, finish_acts}
 use Rattle.mk_valid.specs.Validations.{ValidationState, next_act, after_answer, vote_of}
 use Rattle.mk_column.specs.declared.Step.{Step}
 use Rattle.mk_column.specs.ColumnState.{ColumnState, AttemptState, attempt_of, entries_at}
@@ -23,10 +26,10 @@ use Rattle.mk_column.specs.Learnings.{learned_in_step, txn_of}
 use Rattle.mk_column.specs.Steps.{replica_takes, validated, voted_msg}
 use Rattle.mk_agreement.specs.Moments.{Moment, PastEntry, Taught, remembered, remembered_from, past_after}
 use Rattle.mk_agreement.specs.Messages.{Sent, msg_of}
-use Rattle.mk_agreement.specs.Moves.{EntryMove, Newborn, WorkMove, IsStampedIn, ServesAttempt, IsMatched, past_opened, past_or_opened, entry_of_past}
+use Rattle.mk_agreement.specs.Moves.{undated, EntryMove, Newborn, WorkMove, IsStampedIn, ServesAttempt, IsMatched, past_opened, past_or_opened, entry_of_past}
 use Rattle.mk_agreement.specs.Moves.EntryMove.{EntryStays, EntryOpens, EntryVotes, EntryPromises, EntryAccepts, EntryFinishes}
 use Rattle.mk_agreement.specs.Moves.Newborn.{VoteSent, AcceptedSent, FinalToldSent, PromiseSent, MovedSent}
-use Rattle.mk_agreement.specs.Moves.WorkMove.{WorkRests, WorkFinishes, WorkValidates}
+use Rattle.mk_agreement.specs.Moves.WorkMove.{WorkRests, WorkEnds, WorkValidates}
 use Rattle.mk_agreement.specs.Facts.{Facts, WorkFacts}
 use Rattle.mk_agreement.proofs.Lookups.{same_id-tells, some_same, entry_of-change, entry_of-change_other}
 use Rattle.mk_agreement.proofs.Histories.{remembered-same, matched-stays, remembered-promise, remembered-accepted, remembered-last, undated-none, undated-some}
@@ -248,9 +251,12 @@ module _ (taught : Taught) (m : Moment) (h : Facts taught m) (step : Step) where
       reacted_sends = sent_by_kind kind
 
       -- the key calls that it begins
-      finishing_moves : (acts : List KeyAct) → re.work ≡ finishing msg.replica acts → WorkMove m (moment_with m step (reacted msg.replica re m.column)) m.column.work re.work
-      finishing_moves [] e = WorkRests e
-      finishing_moves (act ∷ acts) e = WorkFinishes msg.replica (act ∷ acts) e
+      finishing_moves : (entry : PastEntry) (outcome : Outcome) (acts : List KeyAct) → ServesAttempt m msg.replica msg.id txn →
+          remembered m.past.now (m.past.entries msg.replica msg.id) (entry_of msg.id (entries_at (reacted msg.replica re m.column) msg.replica)) ≡ Some entry →
+          entry.last ≡ Some (outcome, m.past.now) → acts ≡ finish_acts entry.txn outcome (passes is_ok_vote (undated entry.vote)) → re.work ≡ finishing msg.replica acts →
+          WorkMove m (moment_with m step (reacted msg.replica re m.column)) m.column.work re.work
+      finishing_moves entry outcome [] s there last is e = WorkRests e
+      finishing_moves entry outcome (act ∷ acts) s there last is e = WorkEnds txn msg.replica msg.id entry outcome (act ∷ acts) s refl refl idle there last is e
 
       work_by_kind : ReactionKind (slice_get m.round.views msg.replica) msg txn (entry_of msg.id (entries_at m.column msg.replica)) (m.past.entries msg.replica msg.id) re →
           WorkMove m (moment_with m step (reacted msg.replica re m.column)) m.column.work re.work
@@ -260,7 +266,12 @@ module _ (taught : Taught) (m : Moment) (h : Facts taught m) (step : Step) where
       work_by_kind (TellsFinal past outcome served old_is last_is e sent work) = WorkRests work
       work_by_kind (PromisesView body served last le e sent work) = WorkRests work
       work_by_kind (AcceptsOutcome outcome body served last le e sent work) = WorkRests work
-      work_by_kind (Finishes outcome body served last e sent work) = finishing_moves _ work
+      work_by_kind (Finishes outcome body served last e sent work) =
+          let there = past_or_opened txn (m.past.entries msg.replica msg.id) in
+          let after = record there { last = Some (outcome, m.past.now) } in
+          let k = changed_to (reacted msg.replica re m.column) msg.replica msg.id _ after (at_replica msg.id ∙ e)
+          (remembered-last m.past.now txn (m.past.entries msg.replica msg.id) outcome (undated-none there.last last)) refl in
+          finishing_moves after outcome _ (serves_it served) k.0 refl refl work
       work_by_kind (BeginsValidation mark body served none e sent work) =
           let k = changed_to (reacted msg.replica re m.column) msg.replica msg.id (opened txn) (past_opened txn) (at_replica msg.id ∙ e)
           (ap (λ (o : Option PastEntry). remembered_from m.past.now o (opened txn)) none) refl in
@@ -367,3 +378,13 @@ module _ (taught : Taught) (m : Moment) (h : Facts taught m) (step : Step) where
           record { attempt = s.attempt; found = s.found; stamped = ap is_some s.stamped; same_epoch = facts.1.1 },
           VoteSent after w m.past.now refl k.0 refl,
         )
+
+    -- the entry has the vote
+    pub validated_entry : remembered m.past.now (m.past.entries r txn.id) (entry_of txn.id (entries_at (validated txn r ep (after_answer state answer) None m.column) r))
+        ≡ Some (let opened_one = past_opened txn in record opened_one { vote = Some (vote_of (after_answer state answer), m.past.now) })
+    validated_entry =
+        let w = vote_of (after_answer state answer) in
+        let there = past_opened txn in
+        (changed_to (validated txn r ep (after_answer state answer) None m.column) r txn.id (with_vote w (opened txn)) (record there { vote = Some (w, m.past.now) })
+        (vote_here w (validated txn r ep (after_answer state answer) None m.column) refl)
+        (ap (λ (o : Option PastEntry). remembered_from m.past.now o (with_vote w (opened txn))) facts.0) refl).0

@@ -49,7 +49,7 @@ use Rattle.mk_agreement.proofs.Lookups.{same_id-itself, same_id-tells, and_right
 use Rattle.mk_agreement.proofs.SortedAttempts.{attempt_id, own_number, message_among}
 use Rattle.mk_agreement.proofs.SortedEntries.{moment_with, EntrySorted, entry_untouched, entries_stay, replica_sorted, replica_sends, replica_works, validated_sorted, validated_sends}
 
-idle_from : (w : Work) → is_idle w ≡ true → w ≡ Idle
+pub idle_from : (w : Work) → is_idle w ≡ true → w ≡ Idle
 idle_from Idle e = refl
 idle_from (Fetching id r k) e = absurd (cc e)
 idle_from (Validating t r ep s) e = absurd (cc e)
@@ -217,16 +217,16 @@ module _ (taught : Taught) (m : Moment) (h : Facts taught m) (step : Step) where
         sized = length-set m.column.records r _;
       }
 
-  finishing_sorted : (r : ℕ) (acts : List KeyAct) → StepSorted (record (m.column) { work = finishing r acts })
-  finishing_sorted r [] = untouched _ refl refl (WorkRests refl)
-  finishing_sorted r (act ∷ acts) = untouched _ refl refl (WorkFinishes r (act ∷ acts) refl)
+  finishing_sorted : (r : ℕ) (act : KeyAct) (acts : List KeyAct) → m.column.work ≡ Finishing r (act ∷ acts) → StepSorted (record (m.column) { work = finishing r acts })
+  finishing_sorted r act [] e = untouched _ refl refl (WorkRests refl)
+  finishing_sorted r act (next ∷ acts) e = untouched _ refl refl (WorkFinishes r act (next ∷ acts) refl e refl (λ q id. entries_stay taught m h step q id))
 
   answered_sorted : (answer : Answer) (work : Work) → m.column.work ≡ work → StepSorted (answered answer work m.column)
   answered_sorted answer Idle e = untouched m.column refl refl (WorkRests e)
   answered_sorted answer (Fetching id replica key) e = untouched _ refl refl (WorkRests refl)
   answered_sorted answer (Validating txn replica epoch state) e = validating_sorted answer txn replica epoch state (next_act (after_answer state answer)) e refl
   answered_sorted answer (Finishing replica []) e = untouched _ refl refl (WorkRests refl)
-  answered_sorted answer (Finishing replica (act ∷ acts)) e = finishing_sorted replica acts
+  answered_sorted answer (Finishing replica (act ∷ acts)) e = finishing_sorted replica act acts e
 
   nothing_learned : (a : AttemptState) (r : Ruling) (o : Outcome) → ruling m.round.faults a.coord ≡ r → r ≡ Fast o → (id : TxnId) → attempt_of m.column id ≡ Some a → a.id ≡ id →
       Among (learning a.id ByVotes o) (by_rule m.round id (attempt_of m.column id))

@@ -4,5 +4,6 @@ pub mod Messages
 pub mod Decided
 pub mod Moves
 pub mod Facts
+pub mod KeyActs
 pub mod Laws
 pub mod FirstEpoch

@@ -1,5 +1,5 @@
 -- What an event does: to each attempt, takeover and entry, to the messages, the key calls under way, and what is learned.
-use Rattle.std.specs.Prelude.{◌≡◌, ◌⊎◌, ◌<◌, ◌≤◌, ℕ, true, false, List, Option, Some, None, is_some, option_map, slice_get}
+use Rattle.std.specs.Prelude.{◌≡◌, ◌⊎◌, ◌<◌, ◌≤◌, ℕ, true, false, List, Option, Some, None, is_some, option_map, slice_get, ◌∷◌}
 use Rattle.mk_lists.specs.Among.{Among}
 use Rattle.mk_txn.specs.declared.TxnId.{TxnId}
 use Rattle.mk_txn.specs.declared.Stamp.{Stamp}
@@ -15,7 +15,9 @@ use Rattle.mk_msg.specs.declared.Told.{Told}
 use Rattle.mk_msg.specs.declared.Moved.{Moved}
 use Rattle.mk_msg.specs.declared.Msg.{Msg}
 use Rattle.mk_msg.specs.declared.Body.TheVariants.{Validate as ValidateBody, Voted, Accept, Accepted as AcceptedBody, Decide, Ask, Told as ToldBody, Moved as MovedBody}
-use Rattle.mk_valid.specs.Checks.{KeyAct}
+use Rattle.mk_quorum.specs.Slots.{passes}
+use Rattle.mk_txn.specs.Outcomes.{is_ok_vote}
+use Rattle.mk_valid.specs.Checks.{KeyAct, finish_acts}
 use Rattle.mk_valid.specs.Validations.{ValidationState, validation_of, next_act, after_answer, vote_of}
 use Rattle.mk_trim.specs.KeptOutcomes.{known_of}
 use Rattle.mk_quorum.specs.Sizes.{members}
@@ -195,7 +197,11 @@ pub data WorkMove (m next : Moment) (old new : Work) : Type 0 where
       new ≡ Validating txn r epoch (validation_of txn) → WorkMove m next old new
   WorkGoesOn : (txn : Transaction) (r epoch : ℕ) (state : ValidationState) (answer : Answer) → next.round ≡ m.round → old ≡ Validating txn r epoch state →
       new ≡ Validating txn r epoch (after_answer state answer) → ((r : ℕ) (id : TxnId) → next.past.entries r id ≡ m.past.entries r id) → WorkMove m next old new
-  WorkFinishes : (r : ℕ) (left : List KeyAct) → new ≡ Finishing r left → WorkMove m next old new
+  WorkEnds : (txn : Transaction) (r : ℕ) (id : TxnId) (entry : PastEntry) (outcome : Outcome) (left : List KeyAct) (served : ServesAttempt m r id txn) → next.round ≡ m.round → next.past.now ≡ m.past.now → old ≡ Idle →
+      next.past.entries r id ≡ Some entry → entry.last ≡ Some (outcome, m.past.now) → left ≡ finish_acts entry.txn outcome (passes is_ok_vote (undated entry.vote)) →
+      new ≡ Finishing r left → WorkMove m next old new
+  WorkFinishes : (r : ℕ) (act : KeyAct) (left : List KeyAct) → next.round ≡ m.round → old ≡ Finishing r (act ∷ left) → new ≡ Finishing r left →
+      ((q : ℕ) (id : TxnId) → next.past.entries q id ≡ m.past.entries q id) → WorkMove m next old new
 
 -- ---- all together
 
