@@ -1,0 +1,43 @@
+-- What is told by the messages that were sent, whatever their order.
+use Rattle.std.specs.Prelude.{◌≡◌, ℕ, ◌<◌, List, [], Option, Some, None}
+use Rattle.mk_lists.specs.Among.{Among}
+use Rattle.mk_txn.specs.declared.TxnId.{TxnId}
+use Rattle.mk_txn.specs.declared.Vote.{Vote}
+use Rattle.mk_txn.specs.declared.Accepted.{Accepted}
+use Rattle.mk_txn.specs.declared.Outcome.{Outcome}
+use Rattle.mk_msg.specs.declared.Told.{Told}
+use Rattle.mk_msg.specs.declared.Msg.{Msg}
+use Rattle.mk_msg.specs.declared.Body.{Body}
+use Rattle.mk_msg.specs.declared.Body.TheVariants.{Voted, Accept, Told as ToldBody}
+use Rattle.mk_quorum.specs.Slots.{slot}
+use Rattle.mk_takeover.specs.Picks.{TakeoverState}
+
+-- a message
+abbrev pub msg_of : ℕ → TxnId → ℕ → ℕ → Body → Msg
+msg_of epoch id replica view body = record { epoch = epoch; id = id; replica = replica; view = view; body = body }
+
+-- a message of the attempt, to or from this replica, in this view, was sent
+abbrev pub Sent : List Msg → TxnId → ℕ → ℕ → Body → Type 0
+Sent link id replica view body = (epoch : ℕ) × Among (msg_of epoch id replica view body) link
+
+-- an outcome was proposed in a view
+abbrev pub Proposed : List Msg → TxnId → ℕ → Outcome → Type 0
+Proposed link id view outcome = (replica : ℕ) × Sent link id replica view (Accept outcome)
+
+-- each of these votes was sent by its replica
+abbrev pub VotesIn : List Msg → TxnId → List (Option Vote) → Type 0
+VotesIn link id votes = (r : ℕ) (vote : Vote) → slot votes r ≡ Some vote → Sent link id r 0 (Voted vote)
+
+-- the reply promises the view, and tells of no accept in it or above
+pub record IsReply (link : List Msg) (id : TxnId) (view replica : ℕ) (told : Told) : Type 0 where
+  pub sent : Sent link id replica view (ToldBody told)
+  pub not_final : told.last ≡ None
+  pub earlier : (a : Accepted) → told.accepted ≡ Some a → a.view < view
+
+-- each of these replies does
+abbrev pub RepliesIn : List Msg → TxnId → ℕ → List (Option Told) → Type 0
+RepliesIn link id view replies = (r : ℕ) (told : Told) → slot replies r ≡ Some told → IsReply link id view r told
+
+-- a takeover that has only these replies
+abbrev pub taking_over : ℕ → List (Option Told) → TakeoverState
+taking_over view replies = record { view = view; told = replies; accepts = []; proposed = None; learned = None }

@@ -1,0 +1,55 @@
+//! One column is safe: the laws of its events over all rounds.
+#![tactic(auto)]
+
+ghost use Rattle.mk_agreement.specs.Laws.{EventsMove, ColumnsGrow, FactsHold, EntriesChangeWhereServed, RecordsMatch, MessagesAreOf, AcceptIsProposal, OneProposal, VotedTrue, AcceptedTrue, ToldTrue, MovedTrue, AcceptedWasProposed, FinalWasSent, OwnGrounds, FastGrounds, TakeoverGrounds, ViewsAgree, FastForbids, OneDecision, CommitSupport, LearnedBacked, BackingStays};
+ghost use Rattle.mk_agreement.specs.FirstEpoch.{OneDecisionInFirstEpoch, LearningsAreDecided, LearningsAgree};
+
+/// What each event does, that it only adds to what is there, and what holds at every moment.
+pub fn events_are_sorted()
+    ensures events_move { EventsMove }
+    ensures columns_grow { ColumnsGrow }
+    ensures facts_hold { FactsHold }
+    ensures entries_change_where_served { EntriesChangeWhereServed }
+    ensures records_match { RecordsMatch }
+{}
+
+/// What each message says for ever.
+pub fn messages_are_true()
+    ensures messages_are_of { MessagesAreOf }
+    ensures accept_is_proposal { AcceptIsProposal }
+    ensures one_proposal { OneProposal }
+    ensures voted_true { VotedTrue }
+    ensures accepted_true { AcceptedTrue }
+    ensures told_true { ToldTrue }
+    ensures moved_true { MovedTrue }
+    ensures accepted_was_proposed { AcceptedWasProposed }
+    ensures final_was_sent { FinalWasSent }
+{}
+
+/// What proposals rest on, that views agree, and that an attempt has one decision.
+pub fn views_agree()
+    ensures own_grounds { OwnGrounds }
+    ensures fast_grounds { FastGrounds }
+    ensures takeover_grounds { TakeoverGrounds }
+    ensures views_agree { ViewsAgree }
+    ensures fast_forbids { FastForbids }
+    ensures one_decision { OneDecision }
+    ensures commit_support { CommitSupport }
+{}
+
+/// What is learned is decided, or was taught by a later epoch.
+pub fn learnings_are_backed()
+    ensures learned_backed { LearnedBacked }
+    ensures backing_stays { BackingStays }
+{}
+
+/// Where no epoch changes, an attempt has one decision.
+pub fn one_decision_in_first_epoch()
+    ensures { OneDecisionInFirstEpoch }
+{}
+
+/// Where no epoch changes, everything that is learned is decided, and so agrees.
+pub fn learnings_are_decided_in_first_epoch()
+    ensures decided { LearningsAreDecided }
+    ensures agree { LearningsAgree }
+{}
