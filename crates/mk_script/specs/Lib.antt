@@ -1,0 +1,11 @@
+pub mod Scripts
+pub mod LineWords
+pub mod Grammar
+pub mod ItemShapes
+pub mod Faults
+pub mod Seen
+pub mod Readers
+pub mod Texts
+pub mod Parsed
+pub mod Printed
+pub mod Whole
