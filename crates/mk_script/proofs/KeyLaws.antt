@@ -1,5 +1,5 @@
 -- Keys and items, one after the other.
-use Rattle.std.proofs.Common.{◌≡◌, ℕ, suc, ◌+◌, ◌≤◌, ◌-◌, ◌^◌, Bool, true, false, cond, List, [], ◌∷◌, ◌++◌, length, map, min, Option, Some, None, Result, Ok, Err, refl, sym, ap, subst, ◌∙◌, arith, append_assoc}
+use Rattle.std.proofs.Common.{◌≡◌, ℕ, suc, ◌+◌, ◌<◌, ◌≤◌, ◌-◌, ◌^◌, Bool, true, false, cond, List, [], ◌∷◌, ◌++◌, length, map, min, Option, Some, None, Result, Ok, Err, refl, sym, ap, subst, ◌∙◌, arith, append_assoc}
 use Rattle.std.specs.Prelude.{is_some, IsOk}
 use Rattle.std.specs.Str.{bytes_eq}
 use Rattle.std.proofs.lemmas.List.{length-append, append-nil}
@@ -40,6 +40,19 @@ place_stays w (k ∷ ks) more n h = here (bytes_eq w k) refl (place w ks) (λ m 
     here true b o ih e = rw b e
     here false b None ih e = absurd cc
     here false b (Some m) ih e = rw (b, ih m refl) e
+
+-- a place is one of the list's
+pub place_below : (w : List ℕ) (keys : List (List ℕ)) (n : ℕ) → place w keys ≡ Some n → n < length keys
+place_below w [] n h = absurd cc
+place_below w (k ∷ ks) n h = here (bytes_eq w k) refl (place w ks) (place_below w ks) h
+  where
+    here : (b : Bool) → bytes_eq w k ≡ b → (o : Option ℕ) → ((m : ℕ) → o ≡ Some m → m < length ks) → cond b (Some 0) (one_on o) ≡ Some n → n < suc (length ks)
+    here true b o ih e = let zero_is : 0 ≡ n = cc in omega (arith, zero_is)
+    here false b None ih e = absurd cc
+    here false b (Some m) ih e =
+        let next : suc m ≡ n = cc in
+        let below = ih m refl in
+        omega (arith, next, below)
 
 add_grows : (keys : List (List ℕ)) (w : List ℕ) → (more : List (List ℕ)) × (with_name keys w ≡ keys ++ more)
 add_grows keys w = here (is_some (place w keys)) refl

@@ -11,3 +11,4 @@ pub mod PrintedLaws
 pub mod KeepLaws
 pub mod Printable
 pub mod RoundTrip
+mod QuietRows

@@ -27,10 +27,11 @@ use Rattle.mk_script.specs.Grammar.{Mention, Line, spelling, key_of, IsInRounds,
 use Rattle.mk_script.specs.Grammar.Mention.{Reads, Writes, Computes, Deletes}
 use Rattle.mk_script.specs.Grammar.Line.{Opens, Sizes, Retries, Tries, NextRound}
 use Rattle.mk_script.specs.Texts.{ended, IsScript}
+use Rattle.mk_script.specs.Parsed.{script_text}
 use Rattle.mk_script.specs.Printed.{client_name, key_name, mention_in, client_line, retry_lines, fault_line, stop_line, txn_line, takeover_line, global_line, round_lines, next_lines, rounds_lines, lines_of, line_text, text_of, print_text}
 use Rattle.mk_script.specs.Whole.{Prefixed, IsClientBehind, IsOwned, IsAttemptOf, IsFaultBehind, IsStopBehind, IsTxnAt, TxnsAt, IsTakeoverOf, IsRoundAt, RoundsAt, AreRounds, IsWhole}
 use Rattle.mk_script.proofs.KeyLaws.{keys_grow, place_stays, added_place}
-use Rattle.mk_script.proofs.WholeLaws.{small_after}
+use Rattle.mk_script.proofs.WholeLaws.{small_after, text_from_IsScript}
 
 -- ---- lines that fit one behind the other
 
@@ -387,3 +388,8 @@ IsScript-print_text s w =
 pub stands : {E : Type 0} (r : Result (Vec ℕ Global) E) (s : ScriptParts) → IfOk r (λ bytes. bytes.items ≡ print_text s) → OnOk r (IsWhole s) → IfOk r (λ bytes. IsScript bytes.items s)
 stands (Ok bytes) s text whole = subst (λ (b : List ℕ). IsScript b s) (sym text) (IsScript-print_text s whole)
 stands (Err e) s text whole = tt
+
+-- and it is parsed to it
+pub parsed : {E : Type 0} (r : Result (Vec ℕ Global) E) (s : ScriptParts) → IfOk r (λ bytes. IsScript bytes.items s) → IfOk r (λ bytes. script_text bytes.items ≡ Ok s)
+parsed (Ok bytes) s h = text_from_IsScript bytes.items s h
+parsed (Err e) s h = tt

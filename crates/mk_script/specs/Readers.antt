@@ -9,6 +9,7 @@ use Rattle.mk_script.specs.Scripts.{names_of}
 pub record IsIndexed (size : ℕ) (names keys : NameList) (clients : List ClientLine) : Type 0 where
   pub sized : size ≤ 3
   pub named : names.names ≡ names_of clients
+  pub few_clients : length clients ≤ 64
   pub roomy : names.limit ≡ 256
   pub limit : keys.limit ≡ 256
   pub few : length keys.names ≤ 256

@@ -1,6 +1,8 @@
 ghost use Rattle.std.specs.Prelude.{◌≡◌};
 ghost use Rattle.mk_script.specs.declared.error.LineError.TheVariants.{Memory, Fault};
+ghost use Rattle.mk_script.specs.Numbered.{unnumbered};
 
+use mk_names::NameError;
 use mk_text::TextFault;
 use mk_txn::NoMemory;
 use std::alloc::{AllocError, AllocFailed};
@@ -17,6 +19,18 @@ impl From<TextFault> for LineError {
 
     fn from(fault: TextFault) -> LineError {
         LineError::Fault(fault)
+    }
+}
+
+impl From<NameError> for LineError {
+    ghost from_gives = { λ e o. o ≡ unnumbered e };
+
+    fn from(error: NameError) -> LineError {
+        match error {
+            NameError::BadName => LineError::Fault(TextFault::Name),
+            NameError::Full => LineError::Fault(TextFault::Many),
+            NameError::NoMemory => LineError::Memory,
+        }
     }
 }
 

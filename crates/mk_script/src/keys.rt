@@ -10,7 +10,7 @@ use crate::error::LineError;
 use crate::items::{Named, mention};
 use mk_names::Names;
 use mk_proc::Item;
-use mk_text::{TextFault, name_text, next_word};
+use mk_text::{name_text, next_word};
 use std::alloc::Global;
 
 /// The number of a key, a new one last.
@@ -24,18 +24,8 @@ fn number_key(keys: &mut Names, name: &[u8]) -> Result<u32, LineError>
     ensures number { IfOk result (λ n. n ≡ number_of keys.new.names name.now) }
     ensures full { IfErr result (λ e. IsFull e (with_name keys.old.names name.now)) }
 {
-    let text = name_text(name);
-    match keys.find(text) {
-        Some(place) => Ok(place),
-        None => {
-            let place = keys.len();
-            if place >= 256 {
-                return Err(LineError::Fault(TextFault::Many));
-            }
-            keys.push(text)?;
-            Ok(place)
-        }
-    }
+    let number = keys.intern(name_text(name))?;
+    Ok(number)
 }
 
 /// An item with its key's number.

@@ -1,5 +1,5 @@
 //! The text of a script.
-ghost use Rattle.std.specs.Prelude.{◌≡◌, ◌++◌, ◌∷◌, [], OnOk, IfOk, map};
+ghost use Rattle.std.specs.Prelude.{◌≡◌, ◌++◌, ◌∷◌, [], Ok, OnOk, IfOk, map};
 ghost use Rattle.std.specs.List.{flat_map};
 ghost use Rattle.std.specs.String.{string_bytes};
 ghost use Rattle.mk_script.specs.LineWords as texts;
@@ -7,6 +7,7 @@ ghost use Rattle.mk_script.specs.Grammar.Line.{Opens, Sizes, Declares, Retries, 
 ghost use Rattle.mk_script.specs.Printed as spec;
 ghost use Rattle.mk_script.specs.Printed.{line_text, text_of};
 ghost use Rattle.mk_script.specs.Texts.{IsScript};
+ghost use Rattle.mk_script.specs.Parsed.{script_text};
 ghost use Rattle.mk_script.specs.Whole.{IsWhole};
 
 use crate::lines::{ClientLine, Fate, FaultLine, Point, Round, StopLine, TakeoverLine, TxnLine};
@@ -22,8 +23,10 @@ use std::alloc::{AllocError, Global};
 /// rounds, each with its transactions, takeovers and global lines.
 pub fn print(alloc: Global, script: &Script) -> Result<Vec<u8>, NoMemory>
     ensures text { IfOk result (λ bytes. bytes.items ≡ spec.print_text script.now) }
-    // The text stands in the grammar, for this script: so it is parsed to it.
+    // The text stands in the grammar, for this script,
     ensures stands { IfOk result (λ bytes. IsScript bytes.items script.now) }
+    // and parsing it gives this script again.
+    ensures parsed { IfOk result (λ bytes. script_text bytes.items ≡ Ok script.now) }
 {
     text_bytes(alloc, script)
 }

@@ -133,7 +133,7 @@ impl Reader {
     {
         self.clients.reserve(1)?;
         let text = Name::of(String::from_str(self.alloc, name)?);
-        self.names.push(name)?;
+        self.names.intern(name)?;
         self.clients.push_reserved(ClientLine {
             name: text,
             column,
