@@ -1,5 +1,5 @@
 -- A line that passes the tests is a line of the grammar.
-use Rattle.std.proofs.Common.{◌≡◌, ◌≢◌, ℕ, ◌+◌, ◌*◌, ◌<◌, ◌≤◌, ◌^◌, Bool, true, false, cond, leb, ltb, not, List, [], ◌∷◌, ◌++◌, length, map, Option, Some, None, Result, Ok, refl, sym, ap, ◌∙◌, arith, ◌⊎◌, inl, inr}
+use Rattle.std.proofs.Common.{◌≡◌, ◌≢◌, ℕ, ◌+◌, ◌*◌, ◌<◌, ◌≤◌, ◌^◌, Bool, true, false, cond, leb, ltb, not, List, [], ◌∷◌, ◌++◌, length, map, Option, Some, None, Result, Ok, refl, sym, ap, ◌∙◌, arith, inl, inr}
 use Rattle.std.specs.Prelude.{is_some}
 use Rattle.std.specs.Fmt.{decimal}
 use Rattle.std.specs.Str.{bytes_eq}
@@ -26,7 +26,7 @@ use Rattle.mk_script.specs.declared.lines.Point.{Point}
 use Rattle.mk_script.specs.declared.lines.FaultLine.{FaultLine}
 use Rattle.mk_script.specs.declared.lines.StopLine.{StopLine}
 use Rattle.mk_script.specs.Scripts.{State, names_of, client_number, txn_count, takeover_count, global_count, total}
-use Rattle.mk_script.specs.Grammar.{Mention, Line, id_text, mention_text, global_words, line_words, keys_after, same_message, same_attempt, IsAttempt, GlobalFits, Fits, after, IsPassedOver, IsLine, Says}
+use Rattle.mk_script.specs.Grammar.{Mention, Line, id_text, mention_text, global_words, line_words, keys_after, same_message, same_attempt, IsAttempt, GlobalFits, Fits, after, IsPassedOver, Says}
 use Rattle.mk_script.specs.LineWords.{kind_text, fate_text, point_text, keyword_text, version_text, versions, kind_list, fate_list, point_list, keyword_list}
 use Rattle.mk_script.specs.Grammar.Line.{Opens, Sizes, Declares, Retries, Injects, Halts, Tries, TakesOver, Changes, NextRound}
 use Rattle.mk_script.specs.Faults.{at_start, at_size, in_prelude, in_rounds, behind_prelude, attempt_of, ask_line, merge_line, enter_line, promise_line, adopt_line, version_result, size_result, client_result, retry_result, fault_result, stop_result, txn_result, takeover_result, global_result, wipe_result, epoch_result, member_result, round_result, by_keyword, by_words, is_passed_over, counted_result, line_result}

@@ -11,7 +11,7 @@ use Rattle.mk_script.specs.declared.lines.TxnLine.{TxnLine}
 use Rattle.mk_script.specs.declared.lines.Round.{Round}
 use Rattle.mk_script.specs.declared.lines.Point.TheVariants as points
 use Rattle.mk_script.specs.Scripts.{ScriptParts}
-use Rattle.mk_script.specs.Quiet.{NamesKey, AreApart, IsQuiet}
+use Rattle.mk_script.specs.Quiet.{AreApart, IsQuiet}
 
 -- ---- a test for it
 

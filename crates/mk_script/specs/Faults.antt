@@ -1,30 +1,21 @@
 -- What a line says, or its first fault, in the order of the tests.
-use Rattle.std.specs.Prelude.{◌+◌, ◌-◌, ◌*◌, slice_index, ◌^◌, ℕ, Bool, true, false, not, ◌&&◌, ◌==◌, nat_lt, nat_le, List, [], ◌∷◌, ◌++◌, length, take, Option, Some, None, Result, Ok, Err, is_some, if◌then◌else◌}
+use Rattle.std.specs.Prelude.{◌+◌, ◌*◌, ◌^◌, ℕ, Bool, true, false, not, ◌==◌, nat_lt, nat_le, List, [], ◌∷◌, length, Result, Ok, Err, is_some, if◌then◌else◌}
 use Rattle.std.specs.List.{list_any}
 use Rattle.mk_text.specs.declared.fault.TextFault.{TextFault}
 use Rattle.mk_text.specs.declared.fault.TextFault.TheVariants as faults
 use Rattle.mk_text.specs.Words.{words, cut, is_name, number, is_printable, is_empty, none_left}
 use Rattle.mk_text.specs.Fields.{◌>>=◌, ◌>>◌, need, found, named, place, one_of, two_of, three_of, five_of, two_and_more}
 use Rattle.mk_txn.specs.declared.TxnId.{TxnId}
-use Rattle.mk_proc.specs.declared.ProcKind.{ProcKind}
-use Rattle.mk_proc.specs.declared.ProcKind.TheVariants as procs
-use Rattle.mk_msg.specs.declared.MsgKind.{MsgKind}
-use Rattle.mk_msg.specs.declared.MsgKind.TheVariants as kinds
 use Rattle.mk_global.specs.declared.GlobalLine.{GlobalLine}
 use Rattle.mk_global.specs.declared.GlobalLine.TheVariants as globals
 use Rattle.mk_script.specs.declared.words.Section.{Section}
 use Rattle.mk_script.specs.declared.words.Section.TheVariants as sections
 use Rattle.mk_script.specs.declared.words.Keyword.{Keyword}
 use Rattle.mk_script.specs.declared.words.Keyword.TheVariants as keywords
-use Rattle.mk_script.specs.declared.lines.Fate.{Fate}
-use Rattle.mk_script.specs.declared.lines.Fate.TheVariants as fates
-use Rattle.mk_script.specs.declared.lines.Point.{Point}
-use Rattle.mk_script.specs.declared.lines.Point.TheVariants as points
-use Rattle.mk_script.specs.LineWords.{version_text, versions, kind_list, fate_list, point_list, keyword_list, kind_text, fate_text, point_text, proc_text, keyword_text}
+use Rattle.mk_script.specs.LineWords.{version_text, versions, kind_list, fate_list, point_list, keyword_list, kind_text, fate_text, point_text, keyword_text}
 use Rattle.mk_script.specs.ItemShapes.{are_items, mentions_of}
 use Rattle.mk_script.specs.Scripts.{State, names_of, client_number, txn_count, takeover_count, global_count, total}
-use Rattle.mk_script.specs.Grammar.{Mention, keys_after, same_message, same_attempt, after}
-use Rattle.mk_script.specs.Grammar.Mention.{Reads, Writes, Computes, Deletes}
+use Rattle.mk_script.specs.Grammar.{keys_after, same_message, same_attempt, after}
 use Rattle.mk_script.specs.Grammar.Line.{Opens, Sizes, Declares, Retries, Injects, Halts, Tries, TakesOver, Changes, NextRound}
 
 -- ---- places

@@ -9,21 +9,14 @@ use Rattle.mk_txn.specs.declared.TxnId.{TxnId}
 use Rattle.mk_txn.specs.Transactions.{same_id}
 use Rattle.mk_msg.specs.Links.{same_kind}
 use Rattle.mk_proc.specs.declared.ProcKind.{ProcKind}
-use Rattle.mk_proc.specs.declared.ProcKind.TheVariants as procs
 use Rattle.mk_proc.specs.declared.Item.{Item}
 use Rattle.mk_proc.specs.declared.Item.TheVariants as items
-use Rattle.mk_msg.specs.declared.MsgKind.{MsgKind}
-use Rattle.mk_msg.specs.declared.MsgKind.TheVariants as kinds
 use Rattle.mk_global.specs.declared.GlobalLine.{GlobalLine}
 use Rattle.mk_global.specs.declared.GlobalLine.TheVariants as globals
 use Rattle.mk_script.specs.declared.words.Section.{Section}
 use Rattle.mk_script.specs.declared.words.Section.TheVariants as sections
-use Rattle.mk_script.specs.declared.words.Keyword.{Keyword}
 use Rattle.mk_script.specs.declared.words.Keyword.TheVariants as keywords
-use Rattle.mk_script.specs.declared.lines.Fate.{Fate}
 use Rattle.mk_script.specs.declared.lines.Fate.TheVariants as fates
-use Rattle.mk_script.specs.declared.lines.Point.{Point}
-use Rattle.mk_script.specs.declared.lines.Point.TheVariants as points
 use Rattle.mk_script.specs.declared.lines.FaultLine.{FaultLine}
 use Rattle.mk_script.specs.declared.lines.StopLine.{StopLine}
 use Rattle.mk_script.specs.declared.lines.TxnLine.{TxnLine}

@@ -1,7 +1,7 @@
-use Rattle.std.proofs.Common.{◌≡◌, ◌<◌, ◌≤◌, ℕ, List, Some, length, sym, ap, ◌∙◌, arith}
+use Rattle.std.proofs.Common.{◌≡◌, ◌<◌, ℕ, List, Some, length, sym, ap, ◌∙◌, arith}
 use Rattle.std.proofs.lemmas.List.{length-map}
 use Rattle.mk_text.specs.Fields.{place}
-use Rattle.mk_script.specs.Scripts.{name_of, names_of}
+use Rattle.mk_script.specs.Scripts.{name_of}
 use Rattle.mk_script.proofs.KeyLaws.{place_below}
 use Rattle.mk_script.proofs.reader.Reader.client_number.Goals as goal
 
