@@ -1,5 +1,5 @@
 -- How a call of the program ends.
-use Rattle.std.specs.Prelude.{◌≡◌, ◌<◌, ◌≤◌, ℕ, List, [], ◌∷◌, codes, length, Option, Some, None, Err, ⊤}
+use Rattle.std.specs.Prelude.{◌≡◌, ◌≤◌, ℕ, List, [], ◌∷◌, codes, length, Option, Some, None, Err, ⊤}
 use Rattle.mk_text.specs.declared.fault.TextFault.{TextFault}
 use Rattle.mk_script.specs.Scripts.{ScriptParts}
 use Rattle.mk_script.specs.Texts.{IsScript}

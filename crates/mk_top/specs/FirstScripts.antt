@@ -1,5 +1,5 @@
 -- The scripts that can be run so far: one client at most, and one transaction of it with reads and writes at most.
-use Rattle.std.specs.Prelude.{◌≤◌, ◌^◌, ℕ, Bool, true, false, ◌&&◌, ◌==◌, List, [], ◌∷◌, length}
+use Rattle.std.specs.Prelude.{◌≤◌, ◌^◌, Bool, true, false, ◌&&◌, ◌==◌, List, [], ◌∷◌, length}
 use Rattle.std.specs.List.{list_all}
 use Rattle.mk_lists.specs.Among.{Each}
 use Rattle.mk_proc.specs.declared.Item.{Item}
