@@ -20,18 +20,9 @@ fn words_of<R: Env + AllocGlobal>(rt: &R) -> io::Result<Vec<String>> {
     Ok(words)
 }
 
-fn line_of(why: Why) -> &'static str {
-    match why {
-        Why::Unbuilt => "unbuilt",
-        Why::SourceFault => "source fault",
-        Why::SinkFault => "sink fault",
-        Why::NoMemory => "no memory",
-    }
-}
-
 fn ended(rt: &impl Eprint, done: Done) -> ExitCode {
     if let Some(why) = done.why {
-        let _ = eprintln!(rt; "{}", line_of(why));
+        let _ = eprintln!(rt; "{why}");
     }
     ExitCode::from(done.status)
 }
@@ -43,7 +34,7 @@ fn main(rt: HostRuntime) -> ExitCode {
             return ended(&rt, Done::refused(Why::NoMemory));
         }
         // A word that is no text.
-        Err(_) => return ended(&rt, Done::refused(Why::Unbuilt)),
+        Err(_) => return ended(&rt, Done::refused(Why::Usage)),
     };
     let procs = Procs::new(
         Proc::new(ProcKind::Add, add),

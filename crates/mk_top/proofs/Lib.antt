@@ -1,3 +1,3 @@
 pub mod StoreLaws
-pub mod ItemLaws
 pub mod OpeningLaws
+pub mod FirstLaws

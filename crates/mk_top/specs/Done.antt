@@ -1,8 +1,11 @@
 -- How a call of the program ends.
-use Rattle.std.specs.Prelude.{◌≡◌, ◌⊎◌, ◌<◌, ◌≤◌, ℕ, List, [], ◌∷◌, codes, length, Option, Some, None, ⊤}
-use Rattle.mk_top.specs.FirstScripts.{FirstScript, first_script_of}
+use Rattle.std.specs.Prelude.{◌≡◌, ◌≤◌, ℕ, List, [], ◌∷◌, codes, length, Option, Some, None, Err, ⊤}
+use Rattle.mk_text.specs.declared.fault.TextFault.{TextFault}
+use Rattle.mk_script.specs.Scripts.{ScriptParts}
+use Rattle.mk_script.specs.Texts.{IsScript}
+use Rattle.mk_script.specs.Parsed.{script_text}
 use Rattle.mk_top.specs.declared.top.Why.{Why}
-use Rattle.mk_top.specs.declared.top.Why.TheVariants.{Unbuilt, SourceFault, SinkFault, NoMemory}
+use Rattle.mk_top.specs.declared.top.Why.TheVariants.{Usage, Refused, SourceFault, TooLong, SinkFault, NoMemory, Unbuilt}
 
 -- the bytes of a script at the most
 abbrev pub script_limit : ℕ
@@ -12,20 +15,23 @@ script_limit = 4194304
 abbrev pub run_words : List (List ℕ)
 run_words = codes "run" ∷ []
 
--- the bytes that a source held, where it tells them, are this script's
-abbrev pub Says : Option (List ℕ) → FirstScript → Type 0
+-- the bytes that a source held, where it tells them, stand in the grammar, for this script
+abbrev pub Says : Option (List ℕ) → ScriptParts → Type 0
 Says None script = ⊤
-Says (Some bytes) script = (length bytes ≤ script_limit) × (first_script_of bytes ≡ Some script)
+Says (Some bytes) script = (length bytes ≤ script_limit) × IsScript bytes script
 
--- the bytes that a source held, where it tells them, are none of a script that can be run so far
-abbrev pub SaysNone : Option (List ℕ) → Type 0
-SaysNone None = ⊤
-SaysNone (Some bytes) = (script_limit < length bytes) ⊎ (first_script_of bytes ≡ None)
+-- this is their first faulty line, and its first fault
+abbrev pub SaysFault : Option (List ℕ) → ℕ → TextFault → Type 0
+SaysFault None line fault = ⊤
+SaysFault (Some bytes) line fault = (length bytes ≤ script_limit) × (script_text bytes ≡ Err (line, fault))
 
 -- the status of each ending
 abbrev pub status_of : Option Why → ℕ
 status_of None = 0
-status_of (Some Unbuilt) = 2
+status_of (Some Usage) = 1
+status_of (Some (Refused line why)) = 2
 status_of (Some SourceFault) = 3
+status_of (Some TooLong) = 4
 status_of (Some SinkFault) = 5
 status_of (Some NoMemory) = 9
+status_of (Some Unbuilt) = 11

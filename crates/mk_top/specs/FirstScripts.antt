@@ -1,144 +1,57 @@
 -- The scripts that can be run so far: one client at most, and one transaction of it with reads and writes at most.
-use Rattle.std.specs.Prelude.{◌^◌, ◌-◌, ℕ, ◌&&◌, ◌==◌, nat_lt, List, [], ◌∷◌, ◌++◌, codes, length, fold, unwrap_or, Option, Some, None, Result, Ok, Err, if◌then◌else◌}
-use Rattle.std.specs.Str.{bytes_eq}
-use Rattle.mk_text.specs.Words.{cut, words, is_name, is_empty, number}
-use Rattle.mk_names.specs.NameLists.{with_name}
-use Rattle.mk_text.specs.Fields.{place, three_of, two_and_more}
-use Rattle.mk_text.specs.declared.fault.TextFault.{TextFault}
+use Rattle.std.specs.Prelude.{◌≤◌, ◌^◌, Bool, true, false, ◌&&◌, ◌==◌, List, [], ◌∷◌, length}
+use Rattle.std.specs.List.{list_all}
+use Rattle.mk_lists.specs.Among.{Each}
 use Rattle.mk_proc.specs.declared.Item.{Item}
-use Rattle.mk_proc.specs.declared.Item.TheVariants.{Read, Write}
-
--- items so far, and the names of their keys by number
-pub record Keyed : Type 0 where
-  pub keys : List (List ℕ)
-  pub items : List Item
-
--- a transaction of a client: its clock, its items and its keys
-pub record FirstTxn : Type 0 where
-  pub client : List ℕ
-  pub clock : ℕ
-  pub mentioned : Keyed
-
--- a script with a transaction, or with none
-pub data FirstScript : Type 0 where
-  NoTxn : FirstScript
-  OneTxn : (txn : FirstTxn) → FirstScript
-
-abbrev pub no_items : Keyed
-no_items = record { keys = []; items = [] }
-
--- the number of a name: its first place
-abbrev pub number_of : List (List ℕ) → List ℕ → ℕ
-number_of keys name = unwrap_or (place name keys) 0
-
--- an item with its key's name
-pub data Named : Type 0 where
-  Reads : (name : List ℕ) → Named
-  Writes : (name : List ℕ) (value : ℕ) → Named
-
-abbrev pub write_by : List ℕ → Result ℕ TextFault → Option Named
-write_by name (Ok value) = Some (Writes name value)
-write_by name (Err fault) = None
-
-abbrev pub written : Option (List ℕ × List ℕ) → Option Named
-written None = None
-written (Some parts) = write_by parts.0 (number 0 (2 ^ 64 - 1) parts.1)
-
-abbrev pub marked : ℕ → List ℕ → Option Named
-marked mark rest = if mark == 114 then Some (Reads rest) else if mark == 119 then written (cut 61 rest) else None
+use Rattle.mk_proc.specs.declared.Item.TheVariants.{Read, Write, Compute, Delete}
+use Rattle.mk_script.specs.Scripts.{ScriptParts}
+use Rattle.mk_script.specs.declared.lines.ClientLine.{ClientLine}
+use Rattle.mk_script.specs.declared.lines.TxnLine.{TxnLine}
+use Rattle.mk_script.specs.declared.lines.Round.{Round}
 
 -- r:KEY or w:KEY=NUMBER
-abbrev pub named : List ℕ → Option Named
-named [] = None
-named (mark ∷ []) = None
-named (mark ∷ colon ∷ rest) = if colon == 58 then marked mark rest else None
+abbrev pub is_plain : Item → Bool
+is_plain (Read key) = true
+is_plain (Write key value) = true
+is_plain (Compute key proc arg) = false
+is_plain (Delete key) = false
 
-abbrev pub name_of : Named → List ℕ
-name_of (Reads name) = name
-name_of (Writes name value) = name
+-- version 1, f = 1, and neither retries nor faults nor stops
+abbrev pub has_first_head : ScriptParts → Bool
+has_first_head s = s.version == 1 && s.size == 1 && s.retry == 0 && length s.faults == 0 && length s.stops == 0
 
-abbrev pub item_on : ℕ → Named → Item
-item_on key (Reads name) = Read key
-item_on key (Writes name value) = Write key value
+-- one client at most, on column 0 with home 0
+abbrev pub are_first_clients : List ClientLine → Bool
+are_first_clients [] = true
+are_first_clients (client ∷ []) = client.column == 0 && client.home == 0
+are_first_clients (client ∷ other ∷ clients) = false
 
--- one more item, where its key has a NAME and it is the sixteenth at most
-abbrev pub with_named : Keyed → Named → Option Keyed
-with_named so_far item =
-    let keys = with_name so_far.keys (name_of item) in
-    if is_name (name_of item) && nat_lt (length so_far.items) 16
-    then Some (record { keys = keys; items = so_far.items ++ item_on (number_of keys (name_of item)) item ∷ [] })
-    else None
+-- one transaction at most
+abbrev pub are_first_txns : List TxnLine → Bool
+are_first_txns [] = true
+are_first_txns (txn ∷ []) = list_all is_plain txn.items
+are_first_txns (txn ∷ other ∷ txns) = false
 
-abbrev pub with_some : Keyed → Option Named → Option Keyed
-with_some so_far None = None
-with_some so_far (Some item) = with_named so_far item
+-- and no takeover and no global line
+abbrev pub is_first_round : Round → Bool
+is_first_round round = are_first_txns round.txns && length round.takeovers == 0 && length round.globals == 0
 
-abbrev pub with_word : Keyed → List ℕ → Option Keyed
-with_word so_far word = with_some so_far (named word)
+-- one round
+abbrev pub are_first_rounds : List Round → Bool
+are_first_rounds [] = false
+are_first_rounds (round ∷ []) = is_first_round round
+are_first_rounds (round ∷ other ∷ rounds) = false
 
-abbrev pub with_next : Option Keyed → List ℕ → Option Keyed
-with_next None word = None
-with_next (Some so_far) word = with_word so_far word
+-- whether the script is a first script
+abbrev pub is_first : ScriptParts → Bool
+is_first s = has_first_head s && are_first_clients s.clients && are_first_rounds s.rounds
 
--- the items that the words are, all of them
-abbrev pub items_of : List (List ℕ) → Option Keyed
-items_of ws = fold with_next (Some no_items) ws
+-- what each transaction of a script keeps, so that it can be run: 1 to 16 items and a clock of at most 2^61
+pub record CanRun (txn : TxnLine) : Type 0 where
+  pub clock : txn.clock ≤ 2 ^ 61
+  pub some : 1 ≤ length txn.items
+  pub few : length txn.items ≤ 16
 
-abbrev pub txn_with : List ℕ → Result ℕ TextFault → Option Keyed → Option FirstTxn
-txn_with client (Ok clock) (Some mentioned) = Some (record { client = client; clock = clock; mentioned = mentioned })
-txn_with client (Ok clock) None = None
-txn_with client (Err fault) mentioned = None
-
-abbrev pub txn_fields : List ℕ → Option (List ℕ × List ℕ × List (List ℕ)) → Option FirstTxn
-txn_fields client None = None
-txn_fields client (Some w) = if bytes_eq w.0 client then txn_with client (number 0 (2 ^ 61) w.1) (items_of w.2) else None
-
--- txn NAME CLOCK ITEM ..
-abbrev pub txn_line : List ℕ → List (List ℕ) → Option FirstTxn
-txn_line client [] = None
-txn_line client (first ∷ ws) = if bytes_eq first (codes "txn") then txn_fields client (two_and_more ws) else None
-
-abbrev pub client_fields : Option (List ℕ × List ℕ × List ℕ) → Option (List ℕ)
-client_fields None = None
-client_fields (Some w) = if is_name w.0 && bytes_eq w.1 (codes "0") && bytes_eq w.2 (codes "0") then Some w.0 else None
-
--- client NAME 0 0
-abbrev pub client_line : List (List ℕ) → Option (List ℕ)
-client_line [] = None
-client_line (first ∷ ws) = if bytes_eq first (codes "client") then client_fields (three_of ws) else None
-
-abbrev pub only_txn : List ℕ → Option FirstTxn → Option FirstScript
-only_txn rest None = None
-only_txn rest (Some txn) = if is_empty rest then Some (OneTxn txn) else None
-
-abbrev pub behind_client : List ℕ → Option (List ℕ × List ℕ) → Option FirstScript
-behind_client client None = None
-behind_client client (Some parts) = only_txn parts.1 (txn_line client (words parts.0))
-
-abbrev pub with_client : List ℕ → Option (List ℕ) → Option FirstScript
-with_client rest None = None
-with_client rest (Some client) = if is_empty rest then Some NoTxn else behind_client client (cut 10 rest)
-
-abbrev pub behind_size : Option (List ℕ × List ℕ) → Option FirstScript
-behind_size None = None
-behind_size (Some parts) = with_client parts.1 (client_line (words parts.0))
-
-abbrev pub prelude : List ℕ → Option FirstScript
-prelude rest = if is_empty rest then Some NoTxn else behind_size (cut 10 rest)
-
--- what stands behind a first line that is just so
-abbrev pub behind_line : List ℕ → Option (List ℕ × List ℕ) → Option (List ℕ)
-behind_line line None = None
-behind_line line (Some parts) = if bytes_eq parts.0 line then Some parts.1 else None
-
-abbrev pub sized : Option (List ℕ) → Option FirstScript
-sized None = None
-sized (Some rest) = prelude rest
-
-abbrev pub versioned : Option (List ℕ) → Option FirstScript
-versioned None = None
-versioned (Some rest) = sized (behind_line (codes "size 1") (cut 10 rest))
-
--- the first script that the bytes are: meerkat 1, size 1, a client line or none, and a txn line of the client or none
-abbrev pub first_script_of : List ℕ → Option FirstScript
-first_script_of bytes = versioned (behind_line (codes "meerkat 1") (cut 10 bytes))
+-- all transactions of a round
+abbrev pub CanRunRound : Round → Type 0
+CanRunRound round = Each CanRun round.txns

@@ -11,8 +11,10 @@ use Rattle.mk_txn.specs.declared.Value.{Value}
 use Rattle.mk_txn.specs.declared.WriteItem.{WriteItem}
 use Rattle.mk_txn.specs.declared.ReadItem.{ReadItem}
 use Rattle.mk_top.specs.Attempts.{opening_reads, opening_writes, opening_stamp}
-use Rattle.mk_top.specs.FirstScripts.{FirstScript, FirstTxn}
-use Rattle.mk_top.specs.FirstScripts.FirstScript.{NoTxn, OneTxn}
+use Rattle.mk_script.specs.declared.lines.ClientLine.{ClientLine}
+use Rattle.mk_script.specs.declared.lines.TxnLine.{TxnLine}
+use Rattle.mk_script.specs.declared.lines.Round.{Round}
+use Rattle.mk_script.specs.Scripts.{ScriptParts}
 use Rattle.mk_top.specs.Spellings.{value_text, stamp_text, name_at, read_text, write_text}
 
 -- ID @STAMP commit fast ITEMS, of a client's first attempt
@@ -40,15 +42,23 @@ store_line stamp entry = codes "store " ++ entry.0 ++ codes " " ++ stamp_text st
 abbrev pub end_line : ℕ → ℕ → ℕ → List ℕ
 end_line commits aborts opens = codes "end " ++ decimal commits ++ codes " " ++ decimal aborts ++ codes " " ++ decimal opens ++ 10 ∷ []
 
--- the attempt's line, what it leaves in the store, and the end
-abbrev pub txn_report : FirstTxn → List ℕ
-txn_report txn =
-    let keys = txn.mentioned.keys in
-    let items = txn.mentioned.items in
+-- the line of the client's attempt, what the attempt leaves in the store, and the end
+abbrev pub txn_report : List ℕ → List (List ℕ) → TxnLine → List ℕ
+txn_report client keys txn =
+    let items = txn.items in
     let stamp = opening_stamp txn.clock items in
-    commit_line txn.client keys stamp (opening_reads items) (opening_writes items) ++ flat_map (store_line stamp) (stored keys (opening_writes items)) ++ end_line 1 0 0
+    commit_line client keys stamp (opening_reads items) (opening_writes items) ++ flat_map (store_line stamp) (stored keys (opening_writes items)) ++ end_line 1 0 0
+
+-- the report of a client and its transaction, where there are both
+abbrev pub clients_report : List (List ℕ) → List ClientLine → List TxnLine → List ℕ
+clients_report keys [] txns = end_line 0 0 0
+clients_report keys (client ∷ clients) [] = end_line 0 0 0
+clients_report keys (client ∷ clients) (txn ∷ txns) = txn_report client.name keys txn
+
+-- the transactions of a round
+abbrev pub txns_of : Round → List TxnLine
+txns_of round = round.txns
 
 -- the report of a first script
-abbrev pub report_of : FirstScript → List ℕ
-report_of NoTxn = end_line 0 0 0
-report_of (OneTxn txn) = txn_report txn
+abbrev pub report_of : ScriptParts → List ℕ
+report_of s = clients_report s.keys s.clients (flat_map txns_of s.rounds)

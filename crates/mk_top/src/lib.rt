@@ -5,7 +5,7 @@
 #![tactic(auto)]
 
 mod attempt;
-mod reading;
+mod first;
 mod reporting;
 mod top;
 mod writing;

@@ -1,27 +1,33 @@
 //! The report of a first script.
-ghost use Rattle.std.specs.Prelude.{◌≡◌, IfOk};
+ghost use Rattle.std.specs.Prelude.{◌≡◌, true, IfOk};
 ghost use Rattle.std.specs.String.{string_bytes};
-ghost use Rattle.mk_top.specs.Reports.{report_of, txn_report};
-ghost use Rattle.mk_top.specs.FirstScripts.FirstScript.{NoTxn};
-ghost use Rattle.mk_top.specs.Seen.{seen_script, seen_txn, CanRun, CanRunTxn};
+ghost use Rattle.mk_lists.specs.Among.{Each};
+ghost use Rattle.mk_top.specs.FirstScripts.{CanRun, CanRunRound, is_first};
+ghost use Rattle.mk_top.specs.Reports.{clients_report, end_line, report_of, txn_report};
 
 use crate::attempt::opening_attempt;
-use crate::reading::{Script, Txn};
 use crate::writing::{put_commit, put_end, put_store};
+use mk_names::Names;
 use mk_proc::Procs;
+use mk_script::{ClientLine, Script, TxnLine};
 use mk_txn::NoMemory;
 use std::alloc::Global;
 
-fn report_txn(alloc: Global, procs: &Procs, txn: &Txn) -> Result<String, NoMemory>
-    requires { CanRunTxn txn.now }
-    ensures { IfOk result (λ text. string_bytes text ≡ txn_report (seen_txn txn.now)) }
+fn report_txn(
+    alloc: Global,
+    procs: &Procs,
+    client: &str,
+    keys: &Names,
+    txn: &TxnLine,
+) -> Result<String, NoMemory>
+    requires { CanRun txn.now }
+    ensures { IfOk result (λ text. string_bytes text ≡ txn_report client.now keys.now.names txn.now) }
 {
-    let keys = &txn.mentioned.keys;
-    let made = opening_attempt(alloc, procs, txn.clock, txn.mentioned.items.as_slice())?;
+    let made = opening_attempt(alloc, procs, txn.clock, txn.items.as_slice())?;
     let mut out = String::new(alloc);
     put_commit(
         &mut out,
-        txn.client.as_str(),
+        client,
         keys,
         made.stamp,
         made.reads.as_slice(),
@@ -33,20 +39,44 @@ fn report_txn(alloc: Global, procs: &Procs, txn: &Txn) -> Result<String, NoMemor
 }
 
 fn report_none(alloc: Global) -> Result<String, NoMemory>
-    ensures { IfOk result (λ text. string_bytes text ≡ report_of NoTxn) }
+    ensures { IfOk result (λ text. string_bytes text ≡ end_line 0 0 0) }
 {
     let mut out = String::new(alloc);
     put_end(&mut out, 0, 0, 0)?;
     Ok(out)
 }
 
-/// The report of a script.
-pub fn report(alloc: Global, procs: &Procs, script: &Script) -> Result<String, NoMemory>
-    requires { CanRun script.now }
-    ensures { IfOk result (λ text. string_bytes text ≡ report_of (seen_script script.now)) }
+fn report_clients(
+    alloc: Global,
+    procs: &Procs,
+    keys: &Names,
+    clients: &[ClientLine],
+    txns: &[TxnLine],
+) -> Result<String, NoMemory>
+    requires { Each CanRun txns.now }
+    ensures { IfOk result (λ text. string_bytes text ≡ clients_report keys.now.names clients.now txns.now) }
 {
-    match script {
-        Script::Empty => report_none(alloc),
-        Script::One(txn) => report_txn(alloc, procs, txn),
+    match (clients, txns) {
+        ([client, ..], [txn, ..]) => report_txn(alloc, procs, client.name.as_str(), keys, txn),
+        _ => report_none(alloc),
+    }
+}
+
+/// The report of a first script.
+pub fn report(alloc: Global, procs: &Procs, script: &Script) -> Result<String, NoMemory>
+    requires first { is_first script.now ≡ true }
+    requires can_run { Each CanRunRound script.now.rounds }
+    ensures { IfOk result (λ text. string_bytes text ≡ report_of script.now) }
+{
+    match script.rounds.as_slice() {
+        [round] => report_clients(
+            alloc,
+            procs,
+            &script.keys,
+            script.clients.as_slice(),
+            round.txns.as_slice(),
+        ),
+        // A first script has one round.
+        _ => unreachable!(),
     }
 }

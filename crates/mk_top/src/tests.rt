@@ -1,8 +1,10 @@
 ghost use Rattle.std.specs.Prelude.{◌<◌};
 
 use super::*;
+use crate::top::SCRIPT_LIMIT;
 use mk_io::{MemSink, MemSource};
 use mk_proc::{Proc, ProcKind, Procs, add, max, sum};
+use mk_script::TextFault;
 use std::alloc::Global;
 use std::test::Fail;
 
@@ -40,6 +42,11 @@ fn run(
     Ok(call(alloc, words.as_slice(), &mut source, sink))
 }
 
+/// The refusal of a script at this line.
+fn refused(line: u64, why: TextFault) -> Why {
+    Why::Refused { line, why }
+}
+
 #[test]
 fn a_first_script_is_reported_in_any_pieces(rt: HostRuntime) -> Result<(), Fail> {
     for piece in [1u32, 7, 8192] {
@@ -59,8 +66,12 @@ fn a_first_script_is_reported_in_any_pieces(rt: HostRuntime) -> Result<(), Fail>
 
 #[test]
 fn reports_of_other_first_scripts(rt: HostRuntime) -> Result<(), Fail> {
-    let cases: [(&[u8], &[u8]); 4] = [
+    let cases: [(&[u8], &[u8]); 5] = [
         (b"meerkat 1\nsize 1\n", b"end 0 0 0\n"),
+        (
+            b"# first\nmeerkat 1\n\n# second\nsize 1\nretry 0\n",
+            b"end 0 0 0\n",
+        ),
         (b"meerkat 1\nsize 1\nclient a 0 0\n", b"end 0 0 0\n"),
         (
             b"meerkat 1\nsize 1\nclient a 0 0\ntxn a 0 r:x\n",
@@ -81,25 +92,93 @@ fn reports_of_other_first_scripts(rt: HostRuntime) -> Result<(), Fail> {
 }
 
 #[test]
-fn other_scripts_are_not_built(rt: HostRuntime) -> Result<(), Fail> {
-    let cases: [&[u8]; 9] = [
-        b"",
-        b"meerkat 2\nsize 1\n",
-        b"meerkat 1\nsize 2\n",
-        b"meerkat 1\nsize 1",
-        b"meerkat 1\nsize 1\n\n",
-        b"meerkat 1\nsize 1\nclient a 1 0\n",
-        b"meerkat 1\nsize 1\nclient a 0 0\ntxn b 1 r:x\n",
-        b"meerkat 1\nsize 1\nclient a 0 0\ntxn a 1 r:a r:b r:c r:d r:e r:f r:g r:h r:i r:j r:k r:l r:m r:n r:o r:p r:q\n",
-        b"meerkat 1\nsize 1\nclient a 0 0\ntxn a 1 w:x=18446744073709551616\n",
+fn scripts_that_are_not_run(rt: HostRuntime) -> Result<(), Fail> {
+    let cases: [(&[u8], u8, Why); 16] = [
+        (b"", 2, refused(1, TextFault::Order)),
+        (b"meerkat 1\nsize 1", 2, refused(2, TextFault::Cut)),
+        (
+            b"meerkat 1\nsize 1\nclient a 0 0\ntxn a 1",
+            2,
+            refused(4, TextFault::Cut),
+        ),
+        (
+            b"meerkat 1\nsize 1\nclient a 0 0\ntxn a 10 w:x=18446744073709551616\n",
+            2,
+            refused(4, TextFault::Large),
+        ),
+        (
+            b"meerkat 1\nsize 1\nclient a 0 0\ntxn b 10 r:x\n",
+            2,
+            refused(4, TextFault::Unknown),
+        ),
+        (
+            b"meerkat 1\nsize 1\nclient a 0 0\ntxn a 010 r:x\n",
+            2,
+            refused(4, TextFault::Number),
+        ),
+        (
+            b"meerkat 1\nsize 1\nclient a 0 3\n",
+            2,
+            refused(3, TextFault::Large),
+        ),
+        (b"meerkat 2\nsize 1\n", 11, Why::Unbuilt),
+        (b"meerkat 1\nsize 2\n", 11, Why::Unbuilt),
+        (b"meerkat 1\nsize 1\nretry 1\n", 11, Why::Unbuilt),
+        (b"meerkat 1\nsize 1\nclient a 1 0\n", 11, Why::Unbuilt),
+        (
+            b"meerkat 1\nsize 1\nclient a 0 0\nclient b 0 0\n",
+            11,
+            Why::Unbuilt,
+        ),
+        (
+            b"meerkat 1\nsize 1\nclient a 0 0\nstop a.1 read\n",
+            11,
+            Why::Unbuilt,
+        ),
+        (
+            b"meerkat 1\nsize 1\nclient a 0 0\ntxn a 1 c:x=add(1)\n",
+            11,
+            Why::Unbuilt,
+        ),
+        (
+            b"meerkat 1\nsize 1\nclient a 0 0\ntxn a 1 r:x\ntxn a 2 r:x\n",
+            11,
+            Why::Unbuilt,
+        ),
+        (b"meerkat 1\nsize 1\nround\n", 11, Why::Unbuilt),
     ];
-    for script in cases {
+    for (script, status, why) in cases {
         let mut sink = MemSink::new(rt.alloc(), 100, &[])?;
         let done = run(rt.alloc(), script, 100, 0, &mut sink)?;
-        assert_eq!(rt; done.why, Some(Why::Unbuilt));
-        assert_eq!(rt; done.status, 2);
+        assert_eq!(rt;
+            done,
+            Done {
+                status,
+                why: Some(why)
+            }
+        );
         assert!(rt; sink.bytes().is_empty());
     }
+    Ok(())
+}
+
+// The first text is a script of as many bytes as a script may have, and the second has one byte more.
+#[test]
+fn the_longest_script(rt: HostRuntime) -> Result<(), Fail> {
+    let mut script = Vec::from_slice(rt.alloc(), b"meerkat 1\nsize 1\n#")?;
+    script.resize(SCRIPT_LIMIT - 1, b'x')?;
+    script.push(b'\n')?;
+    let mut sink = MemSink::new(rt.alloc(), 100, &[])?;
+    let done = run(rt.alloc(), script.as_slice(), 1 << 20, 0, &mut sink)?;
+    assert_eq!(rt; done.status, 0);
+    assert_eq!(rt; sink.bytes(), b"end 0 0 0\n".as_slice());
+
+    script.push(b'x')?;
+    let mut sink = MemSink::new(rt.alloc(), 100, &[])?;
+    let done = run(rt.alloc(), script.as_slice(), 1 << 20, 0, &mut sink)?;
+    assert_eq!(rt; done, Done::refused(Why::TooLong));
+    assert_eq!(rt; done.status, 4);
+    assert!(rt; sink.bytes().is_empty());
     Ok(())
 }
 
@@ -143,7 +222,8 @@ fn other_words_read_nothing(rt: HostRuntime) -> Result<(), Fail> {
         let mut sink = MemSink::new(alloc, 100, &[])?;
         let mut source = MemSource::new(alloc, first(), 100, &[1])?;
         let done = call(alloc, &two[..count], &mut source, &mut sink);
-        assert_eq!(rt; done.status, 2);
+        assert_eq!(rt; done, Done::refused(Why::Usage));
+        assert_eq!(rt; done.status, 1);
         assert!(rt; sink.bytes().is_empty());
     }
     Ok(())

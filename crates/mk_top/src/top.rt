@@ -1,36 +1,52 @@
 //! The call that the program makes.
-ghost use Rattle.std.specs.Prelude.{◌≡◌, ◌≢◌, ◌⊎◌, ◌++◌, ◌↔◌, IsTrue, List, ℕ, Option, Some, None, map, IfOk, OnOk};
+ghost use Rattle.std.specs.Prelude.{◌≡◌, ◌≢◌, ◌++◌, ◌+◌, ◌↔◌, IsTrue, ℕ, true, false, Err, Some, None, map, IfOk};
 ghost use Rattle.std.specs.String.{string_bytes};
 ghost use Rattle.std.specs.Io.KnownBytes.{Appends};
+ghost use Rattle.mk_text.specs.declared.fault.TextFault.{TextFault as Fault};
 ghost use Rattle.mk_io.specs.Faults.{HasRisen};
-ghost use Rattle.mk_io.specs.Wholes.{AppendsPart};
-ghost use Rattle.mk_top.specs.FirstScripts.{FirstScript};
+ghost use Rattle.mk_io.specs.Wholes.{AppendsPart, TakesCount, TakesAtMost};
+ghost use Rattle.mk_script.specs.Scripts.{ScriptParts};
+ghost use Rattle.mk_top.specs.FirstScripts as first;
 ghost use Rattle.mk_top.specs.Reports.{report_of};
-ghost use Rattle.mk_top.specs.Done.{run_words, Says, SaysNone, status_of};
-ghost use Rattle.mk_top.specs.Seen.{seen_script};
+ghost use Rattle.mk_top.specs.Done.{run_words, script_limit, Says, SaysFault, status_of};
 ghost use Rattle.mk_top.specs.declared.top.Why.{Why as Reason};
 
-use crate::reading::read_script;
+use crate::first::is_first;
 use crate::reporting::report;
 use mk_io::{ReadError, Sink, Source, read_whole, write_whole};
 use mk_proc::Procs;
+use mk_script::{ScriptError, TextFault, parse};
 use mk_txn::NoMemory;
 use std::alloc::Global;
+use thiserror::Error;
 
 /// The bytes of a script at the most.
-const SCRIPT_LIMIT: usize = 4_194_304;
+pub const SCRIPT_LIMIT: usize = 4_194_304;
 
-/// Why a call wrote no whole report.
-#[derive(Clone, Copy, Debug, PartialEq, Eq)]
+/// Why a call wrote no whole report. It is printed as the program's line on standard error.
+#[derive(Clone, Copy, Debug, PartialEq, Eq, Error)]
 pub enum Why {
-    /// The words, or the script, can't be run so far.
-    Unbuilt,
+    /// The words are not the one word `run`.
+    #[error("usage: meerkat run")]
+    Usage,
+    /// The bytes are no script: the first faulty line, counted from 1, and its first fault.
+    #[error("line {line}: {why}")]
+    Refused { line: u64, why: TextFault },
     /// The source failed.
+    #[error("source fault")]
     SourceFault,
+    /// The source has more bytes than a script may have.
+    #[error("too long")]
+    TooLong,
     /// The sink failed.
+    #[error("sink fault")]
     SinkFault,
     /// There was no memory.
+    #[error("no memory")]
     NoMemory,
+    /// The bytes are a script, and no first script.
+    #[error("unbuilt")]
+    Unbuilt,
 }
 
 /// How a call ended: the status that the program ends with, and why it wrote no whole report, if it didn't.
@@ -46,10 +62,13 @@ impl Done {
         ensures { result ≡ record { status = status_of (Some why); why = Some why } }
     {
         let status = match why {
-            Why::Unbuilt => 2,
+            Why::Usage => 1,
+            Why::Refused { .. } => 2,
             Why::SourceFault => 3,
+            Why::TooLong => 4,
             Why::SinkFault => 5,
             Why::NoMemory => 9,
+            Why::Unbuilt => 11,
         };
         Done {
             status,
@@ -60,22 +79,29 @@ impl Done {
 
 /// The report of the script that the source holds.
 fn report_from<S: Source>(alloc: Global, procs: &Procs, source: &mut S) -> Result<String, Why>
-    ensures ok { IfOk result (λ text. (script : FirstScript) × Says (S.left source.old) script × (string_bytes text ≡ report_of script)) }
-    ensures unbuilt { result ≡ Err Why.Unbuilt → SaysNone (S.left source.old) }
+    ensures ok { IfOk result (λ text. (script : ScriptParts) × Says (S.left source.old) script × (first.is_first script ≡ true) × (string_bytes text ≡ report_of script)) }
+    ensures refused { (line : ℕ) (why : Fault) → result ≡ Err (Why.Refused line why) → SaysFault (S.left source.old) line why }
+    ensures unbuilt { result ≡ Err Why.Unbuilt → (script : ScriptParts) × Says (S.left source.old) script × (first.is_first script ≡ false) }
+    ensures too_long { result ≡ Err Why.TooLong → TakesCount (S.left source.old) (S.left source.new) (script_limit + 1) }
+    ensures not_too_long { result ≢ Err Why.TooLong → TakesAtMost (S.left source.old) (S.left source.new) script_limit }
     ensures fault { result ≡ Err Why.SourceFault → HasRisen (S.faults source.old) (S.faults source.new) }
+    ensures no_usage { result ≢ Err Why.Usage }
     ensures no_sink { result ≢ Err Why.SinkFault }
 {
     let bytes = match read_whole(alloc, source, SCRIPT_LIMIT) {
         Ok(bytes) => bytes,
         Err(ReadError::Fault) => return Err(Why::SourceFault),
-        Err(ReadError::TooLong) => return Err(Why::Unbuilt),
+        Err(ReadError::TooLong) => return Err(Why::TooLong),
         Err(ReadError::NoMemory) => return Err(Why::NoMemory),
     };
-    let script = match read_script(alloc, bytes.as_slice()) {
-        Ok(Some(script)) => script,
-        Ok(None) => return Err(Why::Unbuilt),
-        Err(NoMemory) => return Err(Why::NoMemory),
+    let script = match parse(alloc, bytes.as_slice()) {
+        Ok(script) => script,
+        Err(ScriptError::Refused { line, why }) => return Err(Why::Refused { line, why }),
+        Err(ScriptError::NoMemory) => return Err(Why::NoMemory),
     };
+    if !is_first(&script) {
+        return Err(Why::Unbuilt);
+    }
     match report(alloc, procs, &script) {
         Ok(text) => Ok(text),
         Err(NoMemory) => Err(Why::NoMemory),
@@ -97,9 +123,9 @@ fn is_run(words: &[String]) -> bool
     }
 }
 
-/// Reads a script from the source, runs it and writes its report to the sink, where the words are the one word `run`.
-/// All else is refused: with other words nothing is read, and where a refusal other than the sink's comes nothing is
-/// written. All the memory that writing needs is taken before the first write.
+/// Reads a script from the source, runs it and writes its report to the sink, where the words are the one word `run`
+/// and the script is a first script. All else is refused: with other words nothing is read, and where a refusal other
+/// than the sink's comes nothing is written. All the memory that writing needs is taken before the first write.
 pub fn run_top<S: Source, K: Sink>(
     alloc: Global,
     words: &[String],
@@ -110,21 +136,31 @@ pub fn run_top<S: Source, K: Sink>(
     ensures status { result.status ≡ status_of result.why }
 
     // The report of the script that the source held was written whole.
-    ensures ran { result.why ≡ None → (map string_bytes words.now ≡ run_words) × ((script : FirstScript) × Says (S.left source.old) script × Appends (K.held sink.old) (K.held sink.new) (report_of script)) }
+    ensures ran { result.why ≡ None → (map string_bytes words.now ≡ run_words) × ((script : ScriptParts) × Says (S.left source.old) script × (first.is_first script ≡ true) × Appends (K.held sink.old) (K.held sink.new) (report_of script)) }
 
-    // The words are others, or the source held no such script.
-    ensures unbuilt { result.why ≡ Some Why.Unbuilt → (map string_bytes words.now ≢ run_words) ⊎ SaysNone (S.left source.old) }
-    ensures other_words { map string_bytes words.now ≢ run_words → (result.why ≡ Some Why.Unbuilt) × (source.new ≡ source.old) }
+    // The words are others, and nothing was read.
+    ensures usage { (result.why ≡ Some Why.Usage) ↔ (map string_bytes words.now ≢ run_words) }
+    ensures other_words { map string_bytes words.now ≢ run_words → source.new ≡ source.old }
+
+    // The source held no script: which line is faulty, and what its first fault is.
+    ensures refused { (line : ℕ) (why : Fault) → result.why ≡ Some (Why.Refused line why) → SaysFault (S.left source.old) line why }
+
+    // The source held a script that is no first script.
+    ensures unbuilt { result.why ≡ Some Why.Unbuilt → (script : ScriptParts) × Says (S.left source.old) script × (first.is_first script ≡ false) }
+
+    // One byte more than a script may have was taken, and at every other ending no more than it may have.
+    ensures too_long { result.why ≡ Some Why.TooLong → TakesCount (S.left source.old) (S.left source.new) (script_limit + 1) }
+    ensures not_too_long { result.why ≢ Some Why.TooLong → TakesAtMost (S.left source.old) (S.left source.new) script_limit }
 
     // Each fault comes only where the count of that object rose in this call.
     ensures source_fault { result.why ≡ Some Why.SourceFault → HasRisen (S.faults source.old) (S.faults source.new) }
-    ensures sink_fault { result.why ≡ Some Why.SinkFault → HasRisen (K.faults sink.old) (K.faults sink.new) × ((script : FirstScript) × Says (S.left source.old) script × AppendsPart (K.held sink.old) (K.held sink.new) (report_of script)) }
+    ensures sink_fault { result.why ≡ Some Why.SinkFault → HasRisen (K.faults sink.old) (K.faults sink.new) × ((script : ScriptParts) × Says (S.left source.old) script × (first.is_first script ≡ true) × AppendsPart (K.held sink.old) (K.held sink.new) (report_of script)) }
 
     // Nothing was written at any other refusal.
     ensures untouched { (why : Reason) → result.why ≡ Some why → why ≢ Why.SinkFault → sink.new ≡ sink.old }
 {
     if !is_run(words) {
-        return Done::refused(Why::Unbuilt);
+        return Done::refused(Why::Usage);
     }
     let text = match report_from(alloc, procs, source) {
         Ok(text) => text,
