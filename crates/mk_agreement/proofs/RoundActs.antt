@@ -1,21 +1,17 @@
 -- What holds of key acts holds at every moment.
-use Rattle.std.proofs.Common.{◌≡◌, ◌⊎◌, ◌≤◌, ◌∙◌, ℕ, ◌+◌, Bool, true, false, refl, arith, inl, inr, sym, ap, subst, List, [], ◌∷◌, Option, Some, None}
+use Rattle.std.proofs.Common.{◌≡◌, ◌≤◌, ◌∙◌, ℕ, ◌+◌, Bool, true, false, refl, arith, inl, inr, sym, ap, subst, List, [], ◌∷◌, Option, Some, None}
 use Rattle.std.specs.Prelude.{◌==◌, slice_get, if◌then◌else◌}
 use Rattle.std.proofs.lemmas.Bool.Decides.{nat_tests}
-use Rattle.mk_lists.specs.Among.{Among}
-use Rattle.mk_txn.specs.declared.TxnId.{TxnId}
 use Rattle.mk_txn.specs.declared.Conflict.{Conflict}
 use Rattle.mk_txn.specs.declared.Vote.{Vote}
 use Rattle.mk_txn.specs.declared.Vote.TheVariants.{Ok as VoteOk, Abort as VoteAbort}
 use Rattle.mk_txn.specs.declared.Cause.{Cause}
 use Rattle.mk_txn.specs.declared.Outcome.TheVariants.{Abort}
 use Rattle.mk_merge.specs.declared.ReplicaView.{ReplicaView}
-use Rattle.mk_column.specs.declared.Step.{Step}
 use Rattle.mk_column.specs.ColumnState.Work.{Validating}
-use Rattle.mk_column.specs.Conditions.{blocked}
 use Rattle.mk_column.specs.Replicas.{serves}
 use Rattle.mk_column.proofs.Frames.{enabled}
-use Rattle.mk_agreement.specs.Moments.{Moment, PastAct, PastEntry, Taught, StaysTaught, IsRound, IsReached, Event, CanHappen, EachHappens, moment_through, after_event, step_done, round_begun, first_moment}
+use Rattle.mk_agreement.specs.Moments.{Moment, PastEntry, Taught, StaysTaught, IsReached, Event, CanHappen, EachHappens, moment_through, after_event, step_done, round_begun, first_moment}
 use Rattle.mk_agreement.specs.Moments.Event.{NewRound, Doing}
 use Rattle.mk_agreement.specs.Facts.{Facts, WorkFacts}
 use Rattle.mk_agreement.specs.KeyActs.{ActFacts, IsReleasing, ReleaseReason}
