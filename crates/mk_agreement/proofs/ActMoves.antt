@@ -1,6 +1,6 @@
 -- What each step does to key acts.
-use Rattle.std.proofs.Common.{◌≡◌, ◌∙◌, ℕ, Bool, true, false, refl, arith, sym, ap, subst, List, [], ◌∷◌, ◌++◌, Option, Some, None, ◌&&◌, ◌==◌}
-use Rattle.std.specs.Prelude.{option_map, slice_get}
+use Rattle.std.proofs.Common.{◌≡◌, ◌∙◌, ℕ, true, refl, arith, sym, ap, subst, List, [], ◌∷◌, ◌++◌, Option, Some, None, ◌&&◌, ◌==◌}
+use Rattle.std.specs.Prelude.{option_map}
 use Rattle.std.proofs.lemmas.Bool.Decides.{nat_tests}
 use Rattle.mk_txn.specs.declared.Value.{Value}
 use Rattle.mk_txn.specs.declared.Value.TheVariants.{Number, Absent}
@@ -21,13 +21,12 @@ use Rattle.mk_column.specs.declared.Step.TheVariants.{Begin, Unread, Read, Stamp
 use Rattle.mk_column.specs.ColumnState.{ColumnState, Work, entries_at}
 use Rattle.mk_column.specs.ColumnState.Work.{Idle, Fetching, Validating, Finishing}
 use Rattle.mk_column.specs.Conditions.{conditions, same_call, call_at, wanted}
-use Rattle.mk_column.specs.Replicas.{finishing}
-use Rattle.mk_column.specs.Steps.{answered, validated, epoch_of}
+use Rattle.mk_column.specs.Steps.{answered, validated}
 use Rattle.mk_column.proofs.Frames.{AllTrue}
-use Rattle.mk_agreement.specs.Moments.{Moment, PastAct, PastEntry, Taught, step_done, act_of, remembered}
+use Rattle.mk_agreement.specs.Moments.{Moment, Taught, step_done, act_of, remembered}
 use Rattle.mk_agreement.specs.Moves.{past_opened}
 use Rattle.mk_agreement.specs.Facts.{Facts}
-use Rattle.mk_agreement.specs.KeyActs.{ActMove, act_now}
+use Rattle.mk_agreement.specs.KeyActs.{ActMove}
 use Rattle.mk_agreement.specs.KeyActs.ActMove.{NoAct, ActFetched, ActChecked, ActVoted, ActFinished}
 use Rattle.mk_agreement.proofs.Lookups.{and_left, and_right}
 use Rattle.mk_agreement.proofs.SortedEntries.{validated_entry}

@@ -1,13 +1,11 @@
 -- Every event keeps what holds of key acts.
-use Rattle.std.proofs.Common.{◌≡◌, ◌⊎◌, ◌≤◌, ◌∙◌, ℕ, Bool, true, false, refl, arith, inl, inr, sym, ap, subst, List, [], ◌∷◌, ◌++◌, Option, Some, None, map, ◌==◌}
+use Rattle.std.proofs.Common.{◌≡◌, ◌⊎◌, ◌≤◌, ◌∙◌, ℕ, Bool, true, false, refl, arith, inl, inr, sym, ap, subst, List, [], ◌∷◌, ◌++◌, Option, Some, None, map}
 use Rattle.std.specs.Prelude.{slice_get}
 use Rattle.std.proofs.lemmas.Bool.Decides.{nat_tests}
 use Rattle.mk_lists.specs.Among.{Among, Among-append, Among-append_left, Among-append_right}
 use Rattle.mk_txn.specs.declared.TxnId.{TxnId}
-use Rattle.mk_txn.specs.declared.Stamp.{Stamp}
 use Rattle.mk_txn.specs.declared.ReadItem.{ReadItem}
 use Rattle.mk_txn.specs.declared.WriteItem.{WriteItem}
-use Rattle.mk_txn.specs.declared.Reason.{Reason}
 use Rattle.mk_txn.specs.declared.Conflict.{Conflict}
 use Rattle.mk_txn.specs.declared.Vote.{Vote}
 use Rattle.mk_txn.specs.declared.Vote.TheVariants.{Ok as VoteOk, Abort as VoteAbort}
@@ -15,7 +13,6 @@ use Rattle.mk_txn.specs.declared.Outcome.{Outcome}
 use Rattle.mk_txn.specs.declared.Outcome.TheVariants.{Commit, Abort}
 use Rattle.mk_txn.specs.Outcomes.{is_ok_vote}
 use Rattle.mk_txn.specs.Transactions.{Transaction}
-use Rattle.mk_cell.specs.declared.Act.{Act}
 use Rattle.mk_cell.specs.declared.Act.TheVariants.{Get, CheckRead, CheckWrite, ReleaseRead, ReleaseWrite}
 use Rattle.mk_cell.specs.declared.Answer.{Answer}
 use Rattle.mk_cell.specs.declared.Answer.TheVariants.{Version, Okay, Refused, Done}
@@ -24,15 +21,15 @@ use Rattle.mk_valid.specs.Checks.{KeyAct, checks, commits_of, releases_of, relea
 use Rattle.mk_valid.specs.Validations.{ValidationState, validation_of, first_of, rest_of, next_by, next_act, after_check, after_left, after_by, after_answer, vote_of, vote_by}
 use Rattle.mk_merge.specs.declared.ReplicaView.{ReplicaView}
 use Rattle.mk_column.specs.ColumnState.{AttemptState, Work, attempt_of}
-use Rattle.mk_column.specs.ColumnState.Work.{Idle, Fetching, Validating, Finishing}
+use Rattle.mk_column.specs.ColumnState.Work.{Idle, Validating, Finishing}
 use Rattle.mk_column.specs.Replicas.{serves, finishing}
 use Rattle.mk_column.specs.Steps.{epoch_of}
 use Rattle.mk_agreement.specs.Moments.{Moment, PastAct, PastEntry, Taught}
-use Rattle.mk_agreement.specs.Moves.{Moves, EntryMove, WorkMove, ServesAttempt, past_opened, past_or_opened, undated}
+use Rattle.mk_agreement.specs.Moves.{Moves, EntryMove, WorkMove, past_opened, undated}
 use Rattle.mk_agreement.specs.Moves.EntryMove.{EntryStays, EntryOpens, EntryVotes, EntryPromises, EntryAccepts, EntryFinishes}
 use Rattle.mk_agreement.specs.Moves.WorkMove.{WorkRests, WorkFetches, WorkValidates, WorkGoesOn, WorkEnds, WorkFinishes}
-use Rattle.mk_agreement.specs.Facts.{Facts, WorkFacts, Grows}
-use Rattle.mk_agreement.specs.KeyActs.{ActMove, ActFacts, ActOrigin, VoteActs, ValidationActs, FinishActs, WorkActs, WasDone, IsInEpoch, IsReleasing, ReleaseReason, act_at, act_now}
+use Rattle.mk_agreement.specs.Facts.{Facts, WorkFacts}
+use Rattle.mk_agreement.specs.KeyActs.{ActMove, ActFacts, ActOrigin, VoteActs, ValidationActs, FinishActs, WorkActs, WasDone, IsInEpoch, ReleaseReason, act_at, act_now}
 use Rattle.mk_agreement.specs.KeyActs.ActMove.{NoAct, ActFetched, ActChecked, ActVoted, ActFinished}
 use Rattle.mk_agreement.specs.KeyActs.ActOrigin.{OfRead, OfCheck, OfRelease, OfCommit}
 use Rattle.mk_agreement.proofs.Lookups.{some_same}
@@ -107,9 +104,9 @@ module _ (m next : Moment) (txn : Transaction) (r epoch : ℕ) (same_now : next.
           whole = λ n c a. elim (k.whole none c a) [
             | inl old ↦ inl (Among-append_left c state.passed (check ∷ []) old)
             | inr there ↦ elim (subst (λ (l : List KeyAct). Among c l) left there) [
-                | inl e ↦ inl (Among-append_right c state.passed (check ∷ []) (inl e))
-                | inr later ↦ inr later
-              ]
+              | inl e ↦ inl (Among-append_right c state.passed (check ∷ []) (inl e))
+              | inr later ↦ inr later
+            ]
           ];
           refused = λ c e. absurd (none_some state.refusal c none e);
           releases = k.releases;
@@ -337,8 +334,19 @@ module _ (taught : Taught) (m next : Moment) (h : Facts taught m) (moves : Moves
           let same_r : q ≡ r = cc one in
           let same_s : s ≡ z.1.1.0 = cc one in
           let refused : s.refusal ≡ Some z.1.1.1.0 = ap (λ (y : ValidationState). y.refusal) same_s ∙ z.1.1.1.1.2 in
-          inr (inl (t, (n, (after_answer s answer, (z.1.1.1.0,
-          (w4 ∙ (λ j. Validating t (same_r j) n (after_answer s answer)), ap (λ (y : Transaction). y.id) same_txn ∙ z.1.1.1.1.1, refusal_stays s answer z.1.1.1.0 refused))))))
+          inr (inl (
+            t,
+            (
+              n,
+              (
+                after_answer s answer,
+                (
+                  z.1.1.1.0,
+                  (w4 ∙ (λ j. Validating t (same_r j) n (after_answer s answer)), ap (λ (y : Transaction). y.id) same_txn ∙ z.1.1.1.1.1, refusal_stays s answer z.1.1.1.0 refused),
+                ),
+              ),
+            ),
+          ))
       by (ActVoted t q n s x answer now w3 is acts none w4 entry) =
           let one : Validating t q n s ≡ Validating z.0 r z.1.0 z.1.1.0 = sym w3 ∙ w in
           let same_txn : t ≡ z.0 = cc one in
@@ -425,8 +433,13 @@ module _ (taught : Taught) (m next : Moment) (h : Facts taught m) (moves : Moves
           (λ entry c there refused. inr (inl (txn, (ep, (after_answer state answer, (c, (w2, refl, refusal_stays state answer c refused))))))))
       by (ActVoted txn r ep state x answer now w is e none w2 entry) =
           with_new r x answer e (validation_origin txn r ep state x answer now w is e
-          (λ found c there refused. inl (c, (m.past.now,
-          ap (λ (y : PastEntry). y.vote) (some_same found _ (sym there ∙ entry)) ∙ ap (λ (o : Option Conflict). Some (vote_by o, m.past.now)) (refusal_stays state answer c refused)))))
+          (λ found c there refused. inl (
+            c,
+            (
+              m.past.now,
+              ap (λ (y : PastEntry). y.vote) (some_same found _ (sym there ∙ entry)) ∙ ap (λ (o : Option Conflict). Some (vote_by o, m.past.now)) (refusal_stays state answer c refused),
+            ),
+          )))
       by (ActFinished r x left answer now round w e w2) = with_new r x answer e (finish_origin r x left answer w)
 
   -- ---- key calls under way

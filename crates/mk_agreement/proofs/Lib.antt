@@ -22,3 +22,4 @@ pub mod TheLaws
 pub mod OneEpoch
 pub mod ActMoves
 pub mod KeptActs
+pub mod RoundActs

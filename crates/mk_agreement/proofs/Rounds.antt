@@ -178,7 +178,7 @@ no_entries zero r = refl
 no_entries (suc n) zero = refl
 no_entries (suc n) (suc r) = no_entries n r
 
-start_facts : (taught : Taught) (version f keys : ℕ) (clients : List ℕ) → Facts taught (first_moment version f keys clients)
+pub start_facts : (taught : Taught) (version f keys : ℕ) (clients : List ℕ) → Facts taught (first_moment version f keys clients)
 start_facts taught version f keys clients =
     record {
       attempts = λ id a e. absurd (cc e);

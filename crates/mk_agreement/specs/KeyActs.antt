@@ -1,16 +1,14 @@
 -- Key acts of a column: where each comes from, and what votes and final outcomes tell of them.
-use Rattle.std.specs.Prelude.{◌≡◌, ◌⊎◌, ◌≤◌, ℕ, Bool, true, List, [], ◌∷◌, ◌++◌, Option, Some, None, slice_get}
+use Rattle.std.specs.Prelude.{◌≡◌, ◌⊎◌, ◌≤◌, ℕ, true, List, [], ◌∷◌, ◌++◌, Some, None, slice_get}
 use Rattle.mk_lists.specs.Among.{Among}
 use Rattle.mk_txn.specs.declared.TxnId.{TxnId}
 use Rattle.mk_txn.specs.declared.Conflict.{Conflict}
 use Rattle.mk_txn.specs.declared.Cause.{Cause}
-use Rattle.mk_txn.specs.declared.Vote.{Vote}
 use Rattle.mk_txn.specs.declared.Vote.TheVariants.{Ok as VoteOk, Abort as VoteAbort}
 use Rattle.mk_txn.specs.declared.Outcome.{Outcome}
 use Rattle.mk_txn.specs.declared.Outcome.TheVariants.{Commit, Abort}
 use Rattle.mk_txn.specs.Outcomes.{is_ok_vote}
 use Rattle.mk_txn.specs.Transactions.{Transaction}
-use Rattle.mk_cell.specs.declared.Act.{Act}
 use Rattle.mk_cell.specs.declared.Act.TheVariants.{Get}
 use Rattle.mk_cell.specs.declared.Answer.{Answer}
 use Rattle.mk_cell.specs.declared.Answer.TheVariants.{Okay, Refused}

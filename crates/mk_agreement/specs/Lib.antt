@@ -6,4 +6,5 @@ pub mod Moves
 pub mod Facts
 pub mod KeyActs
 pub mod Laws
+pub mod ActLaws
 pub mod FirstEpoch

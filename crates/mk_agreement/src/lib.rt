@@ -2,6 +2,7 @@
 #![tactic(auto)]
 
 ghost use Rattle.mk_agreement.specs.Laws.{EventsMove, ColumnsGrow, FactsHold, EntriesChangeWhereServed, RecordsMatch, MessagesAreOf, AcceptIsProposal, OneProposal, VotedTrue, AcceptedTrue, ToldTrue, MovedTrue, AcceptedWasProposed, FinalWasSent, OwnGrounds, FastGrounds, TakeoverGrounds, ViewsAgree, FastForbids, OneDecision, CommitSupport, LearnedBacked, BackingStays};
+ghost use Rattle.mk_agreement.specs.ActLaws.{ActsHaveOrigin, ChecksOfOk, RefusalOfAbort, ReleasesOfOk};
 ghost use Rattle.mk_agreement.specs.FirstEpoch.{OneDecisionInFirstEpoch, LearningsAreDecided, LearningsAgree};
 
 /// What each event does, that it only adds to what is there, and what holds at every moment.
@@ -41,6 +42,14 @@ pub fn views_agree()
 pub fn learnings_are_backed()
     ensures learned_backed { LearnedBacked }
     ensures backing_stays { BackingStays }
+{}
+
+/// Where key acts come from, and what votes tell of them.
+pub fn key_acts_have_origins()
+    ensures acts_have_origin { ActsHaveOrigin }
+    ensures checks_of_ok { ChecksOfOk }
+    ensures refusal_of_abort { RefusalOfAbort }
+    ensures releases_of_ok { ReleasesOfOk }
 {}
 
 /// Where no epoch changes, an attempt has one decision.

@@ -1,0 +1,11 @@
+use Rattle.mk_agreement.proofs.RoundActs as laws
+use Rattle.mk_agreement.proofs.key_acts_have_origins.Goals as goal
+
+pub returns : goal.returns
+returns c =
+    record {
+      acts_have_origin = laws.acts_have_origin;
+      checks_of_ok = laws.checks_of_ok;
+      refusal_of_abort = laws.refusal_of_abort;
+      releases_of_ok = laws.releases_of_ok;
+    }
