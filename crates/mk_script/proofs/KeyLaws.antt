@@ -1,0 +1,168 @@
+-- Keys and items, one after the other.
+use Rattle.std.proofs.Common.{◌≡◌, ℕ, suc, ◌+◌, ◌<◌, ◌≤◌, ◌-◌, ◌^◌, Bool, true, false, cond, List, [], ◌∷◌, ◌++◌, length, map, min, Option, Some, None, Result, Ok, Err, refl, sym, ap, subst, ◌∙◌, arith, append_assoc}
+use Rattle.std.specs.Prelude.{is_some, IsOk}
+use Rattle.std.specs.Str.{bytes_eq}
+use Rattle.std.proofs.lemmas.List.{length-append, append-nil}
+use Rattle.mk_text.specs.declared.fault.TextFault.{TextFault}
+use Rattle.mk_text.specs.declared.fault.TextFault.TheVariants as faults
+use Rattle.mk_text.specs.Words.{is_name, number}
+use Rattle.mk_text.specs.Fields.{◌>>=◌, ◌>>◌, need, found, named, place, one_on}
+use Rattle.mk_text.proofs.FieldLaws.{bind_ok, need_ok, ok_is, bytes_eq-same}
+use Rattle.mk_proc.specs.declared.Item.{Item}
+use Rattle.mk_proc.specs.declared.Item.TheVariants as items
+use Rattle.mk_script.specs.declared.error.LineError.{LineError}
+use Rattle.mk_script.specs.declared.error.LineError.TheVariants as errors
+use Rattle.mk_names.specs.NameLists.{with_name}
+use Rattle.mk_script.specs.Scripts.{or_zero}
+use Rattle.mk_script.specs.Grammar.{Mention, key_of, keys_after, number_of, item_of}
+use Rattle.mk_script.specs.LineWords.{proc_text, proc_list}
+use Rattle.mk_script.specs.Grammar.Mention.{Reads, Writes, Computes, Deletes}
+use Rattle.mk_script.specs.ItemShapes.{Shape, shape, mention_of, mentions_of}
+use Rattle.mk_script.specs.ItemShapes.Shape.{ReadShape, WriteShape, ComputeShape, DeleteShape}
+use Rattle.mk_script.specs.Seen.{ok_or_nil, mentioned, IsFull}
+
+-- ---- places
+
+pub place_new : (w : List ℕ) (keys : List (List ℕ)) → place w keys ≡ None → place w (keys ++ w ∷ []) ≡ Some (length keys)
+place_new w [] h = rw (bytes_eq-same w) refl
+place_new w (k ∷ ks) h = here (bytes_eq w k) refl (place w ks) (place_new w ks) h
+  where
+    here : (b : Bool) → bytes_eq w k ≡ b → (o : Option ℕ) → (o ≡ None → place w (ks ++ w ∷ []) ≡ Some (length ks)) → cond b (Some 0) (one_on o) ≡ None → place w (k ∷ (ks ++ w ∷ [])) ≡ Some (suc (length ks))
+    here true b o ih e = absurd cc
+    here false b None ih e = rw (b, ih refl) refl
+    here false b (Some n) ih e = absurd cc
+
+pub place_stays : (w : List ℕ) (keys more : List (List ℕ)) (n : ℕ) → place w keys ≡ Some n → place w (keys ++ more) ≡ Some n
+place_stays w [] more n h = absurd cc
+place_stays w (k ∷ ks) more n h = here (bytes_eq w k) refl (place w ks) (λ m e. place_stays w ks more m e) h
+  where
+    here : (b : Bool) → bytes_eq w k ≡ b → (o : Option ℕ) → ((m : ℕ) → o ≡ Some m → place w (ks ++ more) ≡ Some m) → cond b (Some 0) (one_on o) ≡ Some n → place w (k ∷ (ks ++ more)) ≡ Some n
+    here true b o ih e = rw b e
+    here false b None ih e = absurd cc
+    here false b (Some m) ih e = rw (b, ih m refl) e
+
+-- a place is one of the list's
+pub place_below : (w : List ℕ) (keys : List (List ℕ)) (n : ℕ) → place w keys ≡ Some n → n < length keys
+place_below w [] n h = absurd cc
+place_below w (k ∷ ks) n h = here (bytes_eq w k) refl (place w ks) (place_below w ks) h
+  where
+    here : (b : Bool) → bytes_eq w k ≡ b → (o : Option ℕ) → ((m : ℕ) → o ≡ Some m → m < length ks) → cond b (Some 0) (one_on o) ≡ Some n → n < suc (length ks)
+    here true b o ih e = let zero_is : 0 ≡ n = cc in omega (arith, zero_is)
+    here false b None ih e = absurd cc
+    here false b (Some m) ih e =
+        let next : suc m ≡ n = cc in
+        let below = ih m refl in
+        omega (arith, next, below)
+
+add_grows : (keys : List (List ℕ)) (w : List ℕ) → (more : List (List ℕ)) × (with_name keys w ≡ keys ++ more)
+add_grows keys w = here (is_some (place w keys)) refl
+  where
+    here : (b : Bool) → is_some (place w keys) ≡ b → (more : List (List ℕ)) × (cond b keys (keys ++ w ∷ []) ≡ keys ++ more)
+    here true e = ([], sym (append-nil keys))
+    here false e = (w ∷ [], refl)
+
+-- the keys only grow
+pub keys_grow : (keys : List (List ℕ)) (ms : List Mention) → (more : List (List ℕ)) × (keys_after keys ms ≡ keys ++ more)
+keys_grow keys [] = ([], sym (append-nil keys))
+keys_grow keys (m ∷ ms) =
+    let a = add_grows keys (key_of m) in
+    let g = keys_grow (with_name keys (key_of m)) ms in
+    (a.0 ++ g.0, g.1 ∙ ap (λ (x : List (List ℕ)). x ++ g.0) a.1 ∙ append_assoc keys a.0 g.0)
+
+pub length_grows : (keys : List (List ℕ)) (ms : List Mention) → length keys ≤ length (keys_after keys ms)
+length_grows keys ms =
+    let g = keys_grow keys ms in
+    omega (arith, ap length g.1, length-append keys g.0)
+
+pub full_stays : (e : LineError) (keys : List (List ℕ)) (ms : List Mention) → IsFull e keys → IsFull e (keys_after keys ms)
+full_stays errors.Memory keys ms h = tt
+full_stays (errors.Fault fault) keys ms h = (h.0, omega (arith, h.1, length_grows keys ms))
+
+-- a key that is there keeps its number
+number_stays : (w : List ℕ) (keys : List (List ℕ)) (ms : List Mention) (n : ℕ) → place w keys ≡ Some n → number_of (keys_after keys ms) w ≡ n
+number_stays w keys ms n h =
+    let g = keys_grow keys ms in
+    rw (g.1, place_stays w keys g.0 n h) refl
+
+pub added_place : (w : List ℕ) (keys : List (List ℕ)) → (n : ℕ) × (place w (with_name keys w) ≡ Some n)
+added_place w keys = here (place w keys) refl
+  where
+    here : (o : Option ℕ) → place w keys ≡ o → (n : ℕ) × (place w (cond (is_some (place w keys)) keys (keys ++ w ∷ [])) ≡ Some n)
+    here None e = (length keys, rw e (place_new w keys e))
+    here (Some n) e = (n, rw (e) e)
+
+pub item_stays : (m : Mention) (keys : List (List ℕ)) (ms : List Mention) → item_of (with_name keys (key_of m)) m ≡ item_of (keys_after keys (m ∷ ms)) m
+item_stays m keys ms = here m same
+  where
+    same : number_of (with_name keys (key_of m)) (key_of m) ≡ number_of (keys_after keys (m ∷ ms)) (key_of m)
+    same =
+        let p = added_place (key_of m) keys in
+        ap or_zero p.1 ∙ sym (number_stays (key_of m) (with_name keys (key_of m)) ms p.0 p.1)
+
+    here : (x : Mention) → number_of (with_name keys (key_of m)) (key_of x) ≡ number_of (keys_after keys (m ∷ ms)) (key_of x) → item_of (with_name keys (key_of m)) x ≡ item_of (keys_after keys (m ∷ ms)) x
+    here (Reads key) e = ap (λ (n : ℕ). items.Read n) e
+    here (Writes key v) e = ap (λ (n : ℕ). items.Write n v) e
+    here (Computes key proc v) e = ap (λ (n : ℕ). items.Compute n proc v) e
+    here (Deletes key) e = ap (λ (n : ℕ). items.Delete n) e
+
+-- ---- items of words
+
+pub is_named : (o : Option Shape) (m : Mention) → mention_of o ≡ Ok m → is_name (key_of m) ≡ true
+is_named None m e = absurd cc
+is_named (Some (ReadShape key)) m e =
+    let a = need_ok (is_name key) faults.Name (Ok (Reads key)) m e in
+    subst (λ (x : Mention). is_name (key_of x) ≡ true) (ok_is (Reads key) m a.1) a.0
+is_named (Some (DeleteShape key)) m e =
+    let a = need_ok (is_name key) faults.Name (Ok (Deletes key)) m e in
+    subst (λ (x : Mention). is_name (key_of x) ≡ true) (ok_is (Deletes key) m a.1) a.0
+is_named (Some (WriteShape key word)) m e =
+    let a = bind_ok (number 0 (2 ^ 64 - 1) word) (λ n. need (is_name key) faults.Name >> Ok (Writes key n)) m e in
+    let b = need_ok (is_name key) faults.Name (Ok (Writes key a.0)) m a.2 in
+    subst (λ (x : Mention). is_name (key_of x) ≡ true) (ok_is (Writes key a.0) m b.1) b.0
+is_named (Some (ComputeShape key proc word)) m e =
+    let a = bind_ok (number 0 (2 ^ 64 - 1) word) (λ n. need (is_name key) faults.Name >> (found faults.Unknown (named proc_text proc_list proc) >>= λ kind. Ok (Computes key kind n))) m e in
+    let b = need_ok (is_name key) faults.Name (found faults.Unknown (named proc_text proc_list proc) >>= λ kind. Ok (Computes key kind a.0)) m a.2 in
+    let p = bind_ok (found faults.Unknown (named proc_text proc_list proc)) (λ kind. Ok (Computes key kind a.0)) m b.1 in
+    subst (λ (x : Mention). is_name (key_of x) ≡ true) (ok_is (Computes key p.0 a.0) m p.2) b.0
+
+-- a count so far, and the items that are left
+abbrev pub counts : ℕ → Result (List Mention) TextFault → Result ℕ TextFault
+counts n (Ok ms) = Ok (min 17 (n + length ms))
+counts n (Err fault) = Err fault
+
+pub counts_on : (n : ℕ) (word : List ℕ) (ws : List (List ℕ)) (m : Mention) → mention_of (shape word) ≡ Ok m → counts n (mentions_of (word ∷ ws)) ≡ counts (min (n + 1) 17) (mentions_of ws)
+counts_on n word ws m e = rw e (here (mentions_of ws))
+  where
+    here : (r : Result (List Mention) TextFault) → counts n (r >>= λ others. Ok (m ∷ others)) ≡ counts (min (n + 1) 17) r
+    here (Ok ms) = ap (λ (k : ℕ). Ok k) (omega arith)
+    here (Err fault) = refl
+
+pub counts_fault : (n : ℕ) (word : List ℕ) (ws : List (List ℕ)) (fault : TextFault) → mention_of (shape word) ≡ Err fault → counts n (mentions_of (word ∷ ws)) ≡ Err fault
+counts_fault n word ws fault e = rw e refl
+
+-- the first of items that pass
+pub first_mentioned : (word : List ℕ) (ws : List (List ℕ)) (m : Mention) → mention_of (shape word) ≡ Ok m → IsOk (mentions_of (word ∷ ws)) → IsOk (mentions_of ws) × (mentioned (word ∷ ws) ≡ m ∷ mentioned ws)
+first_mentioned word ws m e h = here (mentions_of ws) refl (mention_of (shape word)) e h
+  where
+    here : (r : Result (List Mention) TextFault) → mentions_of ws ≡ r → (o : Result Mention TextFault) → o ≡ Ok m → IsOk (o >>= λ first. r >>= λ others. Ok (first ∷ others)) → IsOk r × (ok_or_nil (o >>= λ first. r >>= λ others. Ok (first ∷ others)) ≡ m ∷ ok_or_nil r)
+    here (Ok ms) q (Ok x) c k = (refl, ap (λ (y : Mention). y ∷ ms) (ok_is x m c))
+    here (Err fault) q (Ok x) c k = absurd cc
+    here r q (Err fault) c k = absurd cc
+
+pub no_fault : (A : Type 0) (word : List ℕ) (ws : List (List ℕ)) (fault : TextFault) → mention_of (shape word) ≡ Err fault → IsOk (mentions_of (word ∷ ws)) → A
+no_fault A word ws fault e h = here (mention_of (shape word)) e h
+  where
+    here : (o : Result Mention TextFault) → o ≡ Err fault → IsOk (o >>= λ first. mentions_of ws >>= λ others. Ok (first ∷ others)) → A
+    here (Ok x) c k = absurd cc
+    here (Err f) c k = absurd cc
+
+pub items_step : (made : List Item) (item : Item) (m : Mention) (ms left : List Mention) (keys new all : List (List ℕ)) (target : List Item)
+    → left ≡ m ∷ ms → new ≡ with_name keys (key_of m) → item ≡ item_of new m → keys_after keys left ≡ all → made ++ map (item_of all) left ≡ target
+    → (keys_after new ms ≡ all) × ((made ++ item ∷ []) ++ map (item_of all) ms ≡ target)
+items_step made item m ms left keys new all target l n i k t =
+    let whole : keys_after keys (m ∷ ms) ≡ all = ap (keys_after keys) (sym l) ∙ k in
+    let one : item ≡ item_of all m = i ∙ ap (λ (x : List (List ℕ)). item_of x m) n ∙ item_stays m keys ms ∙ ap (λ (x : List (List ℕ)). item_of x m) whole in
+    let rest : made ++ (item_of all m ∷ map (item_of all) ms) ≡ target = ap (λ (x : List Mention). made ++ map (item_of all) x) (sym l) ∙ t in (
+      ap (λ (x : List (List ℕ)). keys_after x ms) n ∙ whole,
+      append_assoc made (item ∷ []) (map (item_of all) ms) ∙ ap (λ (x : Item). made ++ (x ∷ map (item_of all) ms)) one ∙ rest,
+    )

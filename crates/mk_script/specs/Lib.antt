@@ -1,0 +1,13 @@
+pub mod Scripts
+pub mod LineWords
+pub mod Grammar
+pub mod ItemShapes
+pub mod Faults
+pub mod Numbered
+pub mod Seen
+pub mod Readers
+pub mod Texts
+pub mod Parsed
+pub mod Printed
+pub mod Whole
+pub mod Quiet
