@@ -18,15 +18,15 @@ script =
       faults = [];
       stops = [];
       rounds =
-        record {
-          txns =
-            record { client = 1; clock = 10; items = Write 0 5 ∷ [] }
-            ∷ (record { client = 1; clock = 20; items = Read 0 ∷ (Delete 0 ∷ []) }
-            ∷ (record { client = 1; clock = 30; items = Read 0 ∷ (Compute 0 Add 1 ∷ []) } ∷ []));
-          takeovers = [];
-          globals = [];
-        }
-        ∷ [];
+          record {
+            txns =
+                record { client = 1; clock = 10; items = Write 0 5 ∷ [] }
+                ∷ (record { client = 1; clock = 20; items = Read 0 ∷ (Delete 0 ∷ []) }
+                ∷ (record { client = 1; clock = 30; items = Read 0 ∷ (Compute 0 Add 1 ∷ []) } ∷ []));
+            takeovers = [];
+            globals = [];
+          }
+          ∷ [];
     }
 
 pub driven : named_in script run ≡ expected_in run

@@ -1,5 +1,5 @@
 -- One transaction that reads and writes a key commits on the fast path.
-use Rattle.std.proofs.Common.{◌≡◌, ◌<◌, ℕ, zero, suc, arith, List, [], ◌∷◌, refl}
+use Rattle.std.proofs.Common.{◌≡◌, List, [], ◌∷◌, refl}
 use Rattle.mk_txn.specs.declared.Value.TheVariants.{Number}
 use Rattle.mk_cell.specs.declared.Act.TheVariants.{Get, CheckRead, CheckWrite, CommitRead, CommitWrite}
 use Rattle.mk_cell.specs.declared.Answer.TheVariants.{Version, Okay, Done}
@@ -9,9 +9,8 @@ use Rattle.mk_script.specs.Scripts.{ScriptParts}
 use Rattle.mk_column.specs.declared.Step.{Step}
 use Rattle.mk_column.specs.declared.Step.TheVariants.{Begin, Read as ReadStep, Stamp, Validate, Take, Key, Rule}
 use Rattle.mk_history.specs.declared.RoundLog.{RoundLog}
-use Rattle.mk_history.specs.Histories.{History, log_of}
-use Rattle.mk_driver.proofs.Rows.{run_of, named_in, expected_in, turned_along, driven_run}
-use Rattle.mk_epoch.specs.EpochState.{views_of, first_epochs}
+use Rattle.mk_history.specs.Histories.{History}
+use Rattle.mk_driver.proofs.Rows.{run_of, named_in, expected_in, driven_run}
 use Rattle.mk_driver.specs.Driven.{IsDriven}
 
 abbrev script : ScriptParts

@@ -20,12 +20,12 @@ script =
       faults = record { kind = AskKind; id = record { client = 1; seq = 1 }; replica = 2; nth = 1; fate = Lose } ∷ [];
       stops = [];
       rounds =
-        record {
-          txns = record { client = 1; clock = 10; items = Write 0 5 ∷ [] } ∷ (record { client = 1; clock = 20; items = Write 1 6 ∷ [] } ∷ []);
-          takeovers = [];
-          globals = Ask 1 ∷ (PromiseLine 1 1 ∷ (PromiseLine 1 0 ∷ (Merge 1 ∷ (Adopt 1 0 ∷ (Adopt 1 1 ∷ (Enter 1 ∷ []))))));
-        }
-        ∷ (record { txns = []; takeovers = record { id = record { client = 1; seq = 1 }; view = 2 } ∷ []; globals = [] } ∷ []);
+          record {
+            txns = record { client = 1; clock = 10; items = Write 0 5 ∷ [] } ∷ (record { client = 1; clock = 20; items = Write 1 6 ∷ [] } ∷ []);
+            takeovers = [];
+            globals = Ask 1 ∷ (PromiseLine 1 1 ∷ (PromiseLine 1 0 ∷ (Merge 1 ∷ (Adopt 1 0 ∷ (Adopt 1 1 ∷ (Enter 1 ∷ []))))));
+          }
+          ∷ (record { txns = []; takeovers = record { id = record { client = 1; seq = 1 }; view = 2 } ∷ []; globals = [] } ∷ []);
     }
 
 pub driven : named_in script with_marks ≡ expected_in with_marks

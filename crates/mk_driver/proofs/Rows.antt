@@ -104,13 +104,14 @@ rounds_turned script run before state (round ∷ rounds) number n e lines =
     let first : map (λ c. named_along script (setting_in script (views_of state.epochs)) (standing_at script c before (views_of state.epochs) []) (log_of round c)) (numbers_from 0 run.columns)
     ≡ map (λ c. expected_along (log_of round c)) (numbers_from 0 run.columns) = cc in
     let rest : named_in_rounds script run (before ++ record { views = views_of state.epochs; round = round } ∷ []) (after_round run round state) rounds
-    ≡ map (λ round. map (λ c. expected_along (log_of round c)) (numbers_from 0 run.columns)) rounds = cc in
-    ((λ c lt. turned_along script (setting_in script views) (standing_at script c before views []) (log_of round c)
-    (maps_agree (λ c. named_along script (setting_in script (views_of state.epochs)) (standing_at script c before (views_of state.epochs) []) (log_of round c))
-    (λ c. expected_along (log_of round c)) 0 run.columns first c (omega arith) (omega (arith, lt)))),
-    subst (λ (k : ℕ). lines_in round.globals ≡ (let lines = round_at script k in lines.globals)) n lines.0,
-    rounds_turned script run (before ++ record { views = views; round = round } ∷ []) (after_round run round state) rounds (number + 1)
-    (let longer = length-append before (record { views = views; round = round } ∷ []) in omega (arith, n, longer)) rest lines.1)
+    ≡ map (λ round. map (λ c. expected_along (log_of round c)) (numbers_from 0 run.columns)) rounds = cc in (
+      (λ c lt. turned_along script (setting_in script views) (standing_at script c before views []) (log_of round c)
+          (maps_agree (λ c. named_along script (setting_in script (views_of state.epochs)) (standing_at script c before (views_of state.epochs) []) (log_of round c))
+          (λ c. expected_along (log_of round c)) 0 run.columns first c (omega arith) (omega (arith, lt)))),
+      subst (λ (k : ℕ). lines_in round.globals ≡ (let lines = round_at script k in lines.globals)) n lines.0,
+      rounds_turned script run (before ++ record { views = views; round = round } ∷ []) (after_round run round state) rounds (number + 1)
+          (let longer = length-append before (record { views = views; round = round } ∷ []) in omega (arith, n, longer)) rest lines.1,
+    )
 
 -- a run whose logs are what the turns name goes by the script
 pub driven_run : (script : ScriptParts) (run : History) → named_in script run ≡ expected_in run → AreLines script 0 run.rounds →

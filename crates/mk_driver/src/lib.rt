@@ -7,7 +7,6 @@ use mk_script::{Lines, Point, TakeoverLine};
 use mk_txn::TxnId;
 use std::marker::Model;
 
-
 /// What comes next at a column: a step, a key call that is wanted, or nothing more in this round.
 #[derive(Drop)]
 pub enum Next {
