@@ -1,5 +1,5 @@
 -- The fate of a message by the script's fault lines, and where an attempt is stopped.
-use Rattle.std.specs.Prelude.{ℕ, Bool, ◌&&◌, ◌==◌, List, Option, Some, None, find, option_map}
+use Rattle.std.specs.Prelude.{ℕ, Bool, ◌&&◌, ◌==◌, List, [], ◌∷◌, ◌++◌, Option, Some, find, option_map}
 use Rattle.std.specs.Option.{unwrap_or}
 use Rattle.mk_txn.specs.declared.TxnId.{TxnId}
 use Rattle.mk_txn.specs.Transactions.{same_id}
@@ -48,3 +48,11 @@ is_stop_of id line = same_id line.id id
 -- where the attempt's own coordinator stops, if a line says so
 abbrev pub stop_of : RuleLines → TxnId → Option Point
 stop_of rules id = option_map (λ line. line.point) (find (is_stop_of id) rules.stops)
+
+-- the rules with one fault line more
+abbrev pub with_fault : FaultLine → RuleLines → RuleLines
+with_fault line rules = record rules { faults = rules.faults ++ line ∷ [] }
+
+-- the rules with one stop line more
+abbrev pub with_stop : StopLine → RuleLines → RuleLines
+with_stop line rules = record rules { stops = rules.stops ++ line ∷ [] }

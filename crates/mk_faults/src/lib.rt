@@ -1,20 +1,8 @@
-//! The fault and stop lines of a script, by message and by attempt.
+//! The fates of messages, and where attempts stop, by a script's fault and stop lines.
 #![tactic(auto)]
 
-use mk_script::{FaultLine, Lines, StopLine};
-use std::marker::Model;
+mod rules;
+#[cfg(test)]
+mod tests;
 
-/// The fault lines and stop lines of a script.
-#[derive(Drop)]
-pub struct Rules {
-    faults: Lines<FaultLine>,
-    stops: Lines<StopLine>,
-}
-
-impl Model for Rules {
-    ghost use Rattle.mk_faults.specs.Fates.{RuleLines};
-
-    ghost Value = { RuleLines };
-
-    ghost view = { λ rules. record { faults = rules.faults; stops = rules.stops } };
-}
+pub use rules::Rules;
