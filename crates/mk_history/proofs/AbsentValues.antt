@@ -137,7 +137,7 @@ journal =
     turn (CommitRead (at 30 1)) Done ∷ (
     turn (CommitWrite (at 30 1) (Number 1)) Done ∷ [])))))))))
 
-abbrev run : History
+abbrev pub run : History
 run =
     record {
       version = 2;

@@ -54,7 +54,7 @@ run version counts =
       rounds = round_1 counts ∷ (round_2 ∷ []);
     }
 
-abbrev with_marks : History
+abbrev pub with_marks : History
 with_marks = run 2 (Counts 1 0)
 
 abbrev without_marks : History

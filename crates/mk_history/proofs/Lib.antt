@@ -1,13 +1,13 @@
 mod OneRun
 mod RunTrials
 mod CoveredNotCounted
-mod ForgottenTeachesNothing
+pub mod ForgottenTeachesNothing
 mod FailingWord
 mod SupersededEpochTeaches
 mod MovedTeachesTakeover
 mod TaughtCoordinator
 mod AbortKeepsFirstCause
-mod AbsentValues
+pub mod AbsentValues
 mod LateVotes
 mod NobodyServes
 mod UnclearTakeover

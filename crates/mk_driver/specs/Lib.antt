@@ -1,0 +1,8 @@
+-- The driver's turns, lowest first.
+pub mod Agenda
+pub mod Delivery
+pub mod Stages
+pub mod Settling
+pub mod Passes
+pub mod Turns
+pub mod Driven

@@ -1,0 +1,8 @@
+//! The fates of messages, and where attempts stop, by a script's fault and stop lines.
+#![tactic(auto)]
+
+mod rules;
+#[cfg(test)]
+mod tests;
+
+pub use rules::Rules;
