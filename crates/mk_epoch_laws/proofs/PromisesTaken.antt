@@ -168,7 +168,6 @@ pub each_below : (n : ℕ) (ps : List PromiseState) → ((p : PromiseState) → 
 each_below n [] h = tt
 each_below n (p ∷ ps) h = (h p (inl refl), each_below n ps (λ q a. h q (inr a)))
 
-
 -- Where a base can be made, its promises stay when more are given.
 module _ (f epoch : ℕ) (ps more : List PromiseState) (distinct : AllDistinct (replicas_of ps)) (may : can_merge f epoch ps ≡ true) where
   pub chosen_stays : chosen f epoch (ps ++ more) ≡ chosen f epoch ps

@@ -103,9 +103,12 @@ module _ (f epoch : ℕ) (ps : List PromiseState) where
       by (Some kept) e =
           let k = first_last-some ps id 0 (members f) kept e in
           let r = report_of ps id k.0 k.1 k.2 in
-          let t = reported_there id r.0 in
-          (r.0, kept, ap (λ (x : Entry). x.last) r.2 ∙ k.3,
-          made_settled id t.0 kept t.1 t.2 (settled_new id new ∙ ap (λ (x : Option Outcome). option_or x (highest_accepted (reports f ps id))) e))
+          let t = reported_there id r.0 in (
+            r.0,
+            kept,
+            ap (λ (x : Entry). x.last) r.2 ∙ k.3,
+            made_settled id t.0 kept t.1 t.2 (settled_new id new ∙ ap (λ (x : Option Outcome). option_or x (highest_accepted (reports f ps id))) e),
+          )
 
   -- an unfinished attempt has no final outcome in any slot
   no_last : (id : TxnId) → IsUnfinished ps id → first_last (reports f ps id) ≡ None
@@ -137,11 +140,14 @@ module _ (f epoch : ℕ) (ps : List PromiseState) where
       by (Some kept) e =
           let k = highest-some ps id 0 (members f) kept e in
           let r = report_of ps id k.0 k.1 k.2 in
-          let t = reported_there id r.0 in
-          (r.0, kept, ap (λ (x : Entry). x.accepted) r.2 ∙ k.3,
-          (λ other lower l. let w = report_within f ps id of other in highest-above ps id 0 (members f) kept e other.promise.replica (omega arith) (omega (arith, w)) lower (at other lower l)),
-          made_settled id t.0 kept.outcome t.1 t.2
-          (settled_new id new ∙ ap (λ (x : Option Outcome). option_or x (highest_accepted (reports f ps id))) (no_last id unfinished) ∙ ap (option_map (λ (x : Accepted). x.outcome)) e))
+          let t = reported_there id r.0 in (
+            r.0,
+            kept,
+            ap (λ (x : Entry). x.accepted) r.2 ∙ k.3,
+            (λ other lower l. let w = report_within f ps id of other in highest-above ps id 0 (members f) kept e other.promise.replica (omega arith) (omega (arith, w)) lower (at other lower l)),
+            made_settled id t.0 kept.outcome t.1 t.2
+                (settled_new id new ∙ ap (λ (x : Option Outcome). option_or x (highest_accepted (reports f ps id))) (no_last id unfinished) ∙ ap (option_map (λ (x : Accepted). x.outcome)) e),
+          )
 
   no_accepted : (id : TxnId) → IsUnaccepted ps id → highest (accepted_reports id) ≡ None
   no_accepted id unaccepted = by (highest (accepted_reports id)) refl
@@ -199,11 +205,13 @@ module _ (f epoch : ℕ) (ps : List PromiseState) where
       by true e =
           let c = member-from_list_any (λ (x : Transaction). same_id x.id t.0.id) (commits_of f ps) e in
           let same : c.0.id ≡ id = same_id-tells c.0.id t.0.id c.2 ∙ same_id-tells t.0.id id t.2 in
-          inl (fate ∙ ap (λ (b : Bool). Some (cond b Commit (Abort (ByEpoch epoch)))) e,
-          elim (taken_from c.0 (settled_commits f ps) (candidates f ps) c.1) [
-            | inl settled ↦ absurd (cc (sym (settled_commit c.0 settled).1 ∙ ap (settled_fate f ps) same ∙ unsettled_none id u))
-            | inr candidate ↦ subst (λ (i : TxnId). hint_of f ≤ ok_reports f ps i) same (candidate_is c.0 candidate).2
-          ])
+          inl (
+            fate ∙ ap (λ (b : Bool). Some (cond b Commit (Abort (ByEpoch epoch)))) e,
+            elim (taken_from c.0 (settled_commits f ps) (candidates f ps) c.1) [
+              | inl settled ↦ absurd (cc (sym (settled_commit c.0 settled).1 ∙ ap (settled_fate f ps) same ∙ unsettled_none id u))
+              | inr candidate ↦ subst (λ (i : TxnId). hint_of f ≤ ok_reports f ps i) same (candidate_is c.0 candidate).2
+            ],
+          )
 
   -- a member of the list is a reported transaction with its fate
   member_is : (x : Fated) → Among x (merged_from f epoch ps).list → (t : Transaction) × Among t (reported_txns ps) × (fated t (fate_for f epoch ps t) ≡ x)

@@ -145,11 +145,13 @@ Among-mapped f y (x ∷ xs) (inr a) = let k = Among-mapped f y xs a in (k.0, inr
 
 pub distinct-push : {X : Type 0} (xs : List X) (y : X) → AllDistinct xs → (Among y xs → ⊥) → AllDistinct (xs ++ y ∷ [])
 distinct-push [] y d out = ((λ a. a), tt)
-distinct-push (x ∷ xs) y d out =
-    ((λ a. elim (Among-append x xs (y ∷ []) a) [
-      | inl old ↦ d.0 old
-      | inr new ↦ elim new [ inl same ↦ out (inl (sym same)) | inr none ↦ none ]
-    ]), distinct-push xs y d.1 (λ a. out (inr a)))
+distinct-push (x ∷ xs) y d out = (
+  (λ a. elim (Among-append x xs (y ∷ []) a) [
+    | inl old ↦ d.0 old
+    | inr new ↦ elim new [ inl same ↦ out (inl (sym same)) | inr none ↦ none ]
+  ]),
+  distinct-push xs y d.1 (λ a. out (inr a)),
+)
 
 pub count_below-more : (n : ℕ) (p q : ℕ → Bool) → ((r : ℕ) → p r ≡ true → q r ≡ true) → count_below n p ≤ count_below n q
 count_below-more zero p q h = omega arith

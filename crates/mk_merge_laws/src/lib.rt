@@ -5,7 +5,6 @@
 #![tactic(auto)]
 
 ghost use Rattle.mk_merge_laws.specs.Composition.{OldFatesStay, FinalFatesStay, AcceptedFatesStay, UnsettledFates, NothingElse, StandsInOrder, RejectedConflict, CandidatesFit, OkReportsMean, ConflictIsMutual};
-
 ghost use Rattle.std.specs.Prelude.{ℕ, List};
 ghost use Rattle.mk_merge.specs.Promises.{PromiseState};
 
