@@ -1,9 +1,7 @@
 -- Every step keeps attempts numbered and stamps rising.
-use Rattle.std.proofs.Common.{◌≡◌, ◌⊎◌, ◌<◌, ◌≤◌, ◌∙◌, ◌+◌, ◌^◌, ℕ, suc, zero, Bool, true, false, refl, arith, inl, inr, sym, ap, subst, List, [], ◌∷◌, ◌++◌, Option, Some, None, ◌&&◌, not, map, max}
-use Rattle.std.specs.Prelude.{find, option_map, is_some, ◌==◌, nat_lt, slice_get, if◌then◌else◌}
-use Rattle.std.specs.List.{list_any}
+use Rattle.std.proofs.Common.{◌≡◌, ◌⊎◌, ◌<◌, ◌≤◌, ◌∙◌, ◌+◌, ◌^◌, ℕ, Bool, true, false, refl, arith, inl, inr, sym, ap, subst, List, [], ◌∷◌, ◌++◌, Option, Some, None, max}
+use Rattle.std.specs.Prelude.{option_map, ◌==◌, nat_lt, if◌then◌else◌}
 use Rattle.std.proofs.lemmas.Bool.Decides.{nat_tests}
-use Rattle.mk_lists.specs.Among.{Among}
 use Rattle.mk_lists.specs.Changed.{change}
 use Rattle.mk_txn.specs.declared.TxnId.{TxnId}
 use Rattle.mk_txn.specs.declared.Stamp.{Stamp as StampType}
@@ -11,34 +9,11 @@ use Rattle.mk_txn.specs.declared.ReadItem.{ReadItem}
 use Rattle.mk_txn.specs.declared.WriteItem.{WriteItem}
 use Rattle.mk_txn.specs.Stamps.{next_stamp_of, fresh_time, time_above_reads}
 use Rattle.mk_txn.specs.Transactions.{Transaction, same_id}
-use Rattle.mk_txn.proofs.ClashFacts.{list_any-from_member}
-use Rattle.mk_cell.specs.declared.Answer.{Answer}
-use Rattle.mk_msg.specs.declared.Msg.{Msg}
-use Rattle.mk_msg.specs.declared.Body.{Body}
-use Rattle.mk_msg.specs.declared.Body.TheVariants.{Moved as MovedBody}
-use Rattle.mk_msg.specs.Links.{message, goes_to_replica}
-use Rattle.mk_coord.specs.declared.Ruling.{Ruling}
-use Rattle.mk_coord.specs.declared.Ruling.TheVariants.{Fast, Propose, Learned, Short, Unaccepted}
-use Rattle.mk_coord.specs.Rulings.{ruling}
-use Rattle.mk_takeover.specs.declared.Pick.{Pick}
-use Rattle.mk_takeover.specs.declared.Pick.TheVariants.{Known, Learned as PickLearned, Propose as PickPropose, Short as PickShort, Unaccepted as PickUnaccepted, Unclear}
-use Rattle.mk_takeover.specs.Picks.{pick}
-use Rattle.mk_valid.specs.Checks.{KeyAct}
-use Rattle.mk_valid.specs.Validations.{ValidationState, next_act, after_answer}
-use Rattle.mk_column.specs.declared.Step.{Step}
-use Rattle.mk_column.specs.declared.Step.TheVariants.{Begin, Unread, Read, Stamp, Validate, Take, Key, Rule, Again, Takeover, Pick as PickStep, Stop}
-use Rattle.mk_column.specs.ColumnState.{Setting, ColumnState, ClientState, AttemptState, Work, client_of, attempt_of, takeover_of, is_client, is_attempt}
-use Rattle.mk_column.specs.ColumnState.Work.{Idle, Fetching, Validating, Finishing}
-use Rattle.mk_column.specs.Conditions.{conditions, may_begin}
-use Rattle.mk_column.specs.Answers.{attempt_answered, heard_of, listens, is_led}
-use Rattle.mk_column.specs.Learnings.{txn_of}
-use Rattle.mk_column.specs.Logs.{not_reading}
-use Rattle.mk_column.specs.Steps.{stepped, new_attempt, unread_attempt, next_id, begun, epoch_of, stamped, stamped_txn, with_txn, with_last_time, with_read, ruled, picked, proposing, taught, taken, replica_takes, answered, validated}
-use Rattle.mk_column.proofs.Frames.{AllTrue, on_some-keeps, either_way}
+use Rattle.mk_column.specs.ColumnState.{ClientState, AttemptState, is_client, is_attempt}
+use Rattle.mk_column.specs.Steps.{next_id, begun, stamped_txn, with_txn, with_last_time}
 use Rattle.mk_agreement.specs.Identity.{Identity, IsClients, IsStampedBy, client_in, attempt_in}
-use Rattle.mk_agreement.proofs.Lookups.{same_id-tells, same_id-itself, some_same, find-passes, find-change, find-push, find-push_kept, find-pushed, eqb-tells, there, and_left, and_right, apart_ids}
+use Rattle.mk_agreement.proofs.Lookups.{same_id-tells, same_id-itself, some_same, find-passes, find-change, find-push, find-push_kept, find-pushed, eqb-tells, apart_ids}
 use Rattle.mk_agreement.proofs.Growing.{none_some}
-use Rattle.mk_agreement.proofs.SortedAttempts.{attempt_id, own_number}
 use Rattle.mk_agreement.proofs.Tables as tables
 
 -- ---- keys of tables
@@ -202,9 +177,9 @@ module _ (clients : List ClientState) (attempts : List AttemptState) (h : Identi
           ];
           rise = λ id other a b t u e f s r same less. elim (was id a e) [
             | inl old ↦ elim (was other b f) [
-                | inl old' ↦ h.rise id other a b t u old old' s r same less
-                | inr k ↦ absurd (none_some b.txn u (ap (λ (x : AttemptState). x.txn) k.1 ∙ unstamped) r)
-              ]
+              | inl old' ↦ h.rise id other a b t u old old' s r same less
+              | inr k ↦ absurd (none_some b.txn u (ap (λ (x : AttemptState). x.txn) k.1 ∙ unstamped) r)
+            ]
             | inr k ↦ absurd (none_some a.txn t (ap (λ (x : AttemptState). x.txn) k.1 ∙ unstamped) s)
           ];
         }
@@ -338,15 +313,15 @@ module _ (clients : List ClientState) (attempts : List AttemptState) (h : Identi
           ];
           rise = λ id other x y t u e f s r same less. elim (stamped_back id x e) [
             | inl old ↦ elim (stamped_back other y f) [
-                | inl old' ↦ h.rise id other x y t u old old' s r same less
-                | inr k ↦ (let now = the_stamp y u k.1 r in
-                    let low = others_below id x t old s (same ∙ ap (λ (z : TxnId). z.client) k.0) in
-                    let time : u.stamp.time ≡ stamp.time = ap (λ (z : StampType). z.time) now in omega (arith, low, time))
-              ]
+              | inl old' ↦ h.rise id other x y t u old old' s r same less
+              | inr k ↦ (let now = the_stamp y u k.1 r in
+                  let low = others_below id x t old s (same ∙ ap (λ (z : TxnId). z.client) k.0) in
+                  let time : u.stamp.time ≡ stamp.time = ap (λ (z : StampType). z.time) now in omega (arith, low, time))
+            ]
             | inr k ↦ elim (stamped_back other y f) [
-                | inl old' ↦ absurd (no_later other y old' (sym (ap (λ (z : TxnId). z.client) k.0) ∙ same) (subst (λ (z : TxnId). z.seq < other.seq) k.0 less))
-                | inr l ↦ absurd (let p = ap (λ (z : TxnId). z.seq) k.0 in let q = ap (λ (z : TxnId). z.seq) l.0 in omega (arith, p, q, less))
-              ]
+              | inl old' ↦ absurd (no_later other y old' (sym (ap (λ (z : TxnId). z.client) k.0) ∙ same) (subst (λ (z : TxnId). z.seq < other.seq) k.0 less))
+              | inr l ↦ absurd (let p = ap (λ (z : TxnId). z.seq) k.0 in let q = ap (λ (z : TxnId). z.seq) l.0 in omega (arith, p, q, less))
+            ]
           ];
         }
       where

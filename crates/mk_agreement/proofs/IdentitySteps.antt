@@ -1,13 +1,11 @@
 -- Attempts are numbered and stamps rise at every moment, so a stamp names its attempt.
-use Rattle.std.proofs.Common.{◌≡◌, ◌⊎◌, ◌<◌, ◌≤◌, ◌∙◌, ◌+◌, ℕ, Bool, true, false, refl, arith, inl, inr, sym, ap, subst, List, [], ◌∷◌, ◌++◌, Option, Some, None, ◌&&◌, not, map, cond}
-use Rattle.std.specs.Prelude.{find, option_map, is_some, ◌==◌, slice_get, max}
+use Rattle.std.proofs.Common.{◌≡◌, ◌⊎◌, ◌<◌, ◌∙◌, ℕ, Bool, true, false, refl, arith, inl, inr, sym, ap, subst, List, [], ◌∷◌, ◌++◌, Option, Some, None, ◌&&◌, not, map, cond}
+use Rattle.std.specs.Prelude.{option_map, is_some, ◌==◌, slice_get}
 use Rattle.std.specs.List.{list_any}
 use Rattle.std.proofs.lemmas.Bool.Decides.{nat_tests}
-use Rattle.mk_lists.specs.Among.{Among, Among-append}
 use Rattle.mk_lists.specs.Changed.{change}
 use Rattle.mk_txn.specs.declared.TxnId.{TxnId}
 use Rattle.mk_txn.specs.declared.Stamp.{Stamp as StampType}
-use Rattle.mk_txn.specs.declared.ReadItem.{ReadItem}
 use Rattle.mk_txn.specs.declared.WriteItem.{WriteItem}
 use Rattle.mk_txn.specs.Stamps.{next_stamp_of}
 use Rattle.mk_txn.specs.Transactions.{Transaction}
@@ -27,18 +25,18 @@ use Rattle.mk_valid.specs.Checks.{KeyAct}
 use Rattle.mk_valid.specs.Validations.{ValidationState, next_act, after_answer}
 use Rattle.mk_column.specs.declared.Step.{Step}
 use Rattle.mk_column.specs.declared.Step.TheVariants.{Begin, Unread, Read, Stamp, Validate, Take, Key, Rule, Again, Takeover, Pick as PickStep, Stop}
-use Rattle.mk_column.specs.ColumnState.{Setting, ColumnState, ClientState, AttemptState, Work, client_of, attempt_of, takeover_of, is_client, is_attempt, new_column, new_client}
+use Rattle.mk_column.specs.ColumnState.{Setting, ColumnState, ClientState, AttemptState, Work, client_of, attempt_of, takeover_of, is_client, is_attempt, new_client}
 use Rattle.mk_column.specs.ColumnState.Work.{Idle, Fetching, Validating, Finishing}
-use Rattle.mk_column.specs.Conditions.{conditions, may_begin, blocked}
+use Rattle.mk_column.specs.Conditions.{conditions, may_begin}
 use Rattle.mk_column.specs.Answers.{attempt_answered, heard_of, listens, is_led}
 use Rattle.mk_column.specs.Learnings.{txn_of}
 use Rattle.mk_column.specs.Logs.{not_reading, replica_reset}
 use Rattle.mk_column.specs.Steps.{stepped, new_attempt, unread_attempt, next_id, begun, epoch_of, stamped, with_read, ruled, picked, proposing, taught as having_learned, taken, replica_takes, answered, validated}
 use Rattle.mk_column.proofs.Frames.{AllTrue, on_some-keeps, either_way, enabled}
-use Rattle.mk_agreement.specs.Moments.{Moment, Taught, StaysTaught, IsReached, Event, CanHappen, EachHappens, moment_through, after_event, first_moment, replicas_reset}
+use Rattle.mk_agreement.specs.Moments.{Moment, Taught, Event, CanHappen, EachHappens, moment_through, after_event, first_moment, replicas_reset}
 use Rattle.mk_agreement.specs.Moments.Event.{NewRound, Doing}
 use Rattle.mk_agreement.specs.Identity.{Identity, client_in, attempt_in, IdsOnce, StampsName}
-use Rattle.mk_agreement.proofs.Lookups.{some_same, there, and_left, and_right}
+use Rattle.mk_agreement.proofs.Lookups.{some_same, there, and_right}
 use Rattle.mk_agreement.proofs.SortedAttempts.{attempt_id, own_number}
 use Rattle.mk_agreement.proofs.Tables.{find-among}
 use Rattle.mk_agreement.proofs.Identities.{aside, attempt_aside, client_aside, begins, stamps_one, fresh_above, number_of}
@@ -166,7 +164,7 @@ start_client (k ∷ numbers) n c e = by (start_client numbers n c) (k == n) e
     by again true q = ap (λ (x : ClientState). x.next_seq) (sym (some_same (new_client k) c q))
     by again false q = again q
 
-start_fine : (numbers : List ℕ) → Identity (map new_client numbers) []
+pub start_fine : (numbers : List ℕ) → Identity (map new_client numbers) []
 start_fine numbers =
     record {
       numbered = λ n c e. let k = start_client numbers n c e in omega (arith, k);
@@ -176,7 +174,7 @@ start_fine numbers =
       rise = λ id other a b t u e f s r same less. absurd (cc e);
     }
 
-event_fine : (taught : Taught) (m : Moment) (event : Event) → CanHappen taught event m → Identity m.column.clients m.column.attempts → Identity (after_event event m).column.clients (after_event event m).column.attempts
+pub event_fine : (taught : Taught) (m : Moment) (event : Event) → CanHappen taught event m → Identity m.column.clients m.column.attempts → Identity (after_event event m).column.clients (after_event event m).column.attempts
 event_fine taught m (NewRound views resets) can h =
     subst (λ (l : List ClientState). Identity l (map not_reading (replicas_reset resets m.column).attempts)) (sym (reset_clients resets m.column))
     (subst (λ (l : List AttemptState). Identity m.column.clients (map not_reading l)) (sym (reset_attempts resets m.column)) (not_reading_fine m.column.clients m.column.attempts h))
@@ -195,9 +193,10 @@ ids_once taught stays m r =
 compare : (v w : ℕ) → (v < w) ⊎ ((v ≡ w) ⊎ (w < v))
 compare v w = grind arith
 
-pub stamps_name : StampsName
-stamps_name taught stays m r id other a b t u e f s q same =
-    let h = ids_once taught stays m r in
+-- from what holds of clients, attempts and stamps
+pub named_by_stamp : (clients : List ClientState) (attempts : List AttemptState) → Identity clients attempts → (id other : TxnId) (a b : AttemptState) (t u : Transaction) →
+    attempt_in attempts id ≡ Some a → attempt_in attempts other ≡ Some b → a.txn ≡ Some t → b.txn ≡ Some u → t.stamp ≡ u.stamp → id ≡ other
+named_by_stamp clients attempts h id other a b t u e f s q same =
     let p = (h.stamps id a t e s).of_client in
     let o = (h.stamps other b u f q).of_client in
     let client : id.client ≡ other.client = sym p ∙ ap (λ (z : StampType). z.client) same ∙ o in
@@ -207,3 +206,6 @@ stamps_name taught stays m r id other a b t u e f s q same =
       | inr (inl seq) ↦ λ i. record { client = client i; seq = seq i }
       | inr (inr more) ↦ absurd (let k = h.rise other id b a u t f e q s (sym client) more in omega (arith, k, time))
     ]
+
+pub stamps_name : StampsName
+stamps_name taught stays m r id other a b t u e f s q same = named_by_stamp m.column.clients m.column.attempts (ids_once taught stays m r) id other a b t u e f s q same

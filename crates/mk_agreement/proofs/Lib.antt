@@ -26,3 +26,5 @@ pub mod RoundActs
 pub mod Tables
 pub mod Identities
 pub mod IdentitySteps
+pub mod ActStamps
+pub mod OrderedActs

@@ -37,7 +37,7 @@ serving_now now served before e = by (now + 1 == now + 1) refl
     by true q = e
     by false q = absurd (grind (arith, nat_tests, q))
 
-start_acts : (version f keys : ℕ) (clients : List ℕ) → ActFacts (first_moment version f keys clients)
+pub start_acts : (version f keys : ℕ) (clients : List ℕ) → ActFacts (first_moment version f keys clients)
 start_acts version f keys clients =
     record {
       votes = λ r id e k. absurd (cc k);
@@ -47,7 +47,7 @@ start_acts version f keys clients =
     }
 
 module _ (taught : Taught) (stays : StaysTaught taught) where
-  event_acts : (m : Moment) → Facts taught m → ActFacts m → (event : Event) → CanHappen taught event m → ActFacts (after_event event m)
+  pub event_acts : (m : Moment) → Facts taught m → ActFacts m → (event : Event) → CanHappen taught event m → ActFacts (after_event event m)
   event_acts m h k (NewRound views resets) can =
       acts_kept taught m (round_begun views resets m) h (event_moves taught stays m h (NewRound views resets) can) (NoAct refl can.idle) k
       (λ i r epoch le e. served_before views m.past.now i r epoch (m.past.served_in i r epoch) le e)

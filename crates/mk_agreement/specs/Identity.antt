@@ -1,14 +1,8 @@
 -- Clients, attempts and stamps: each attempt is one of its client's, and a stamp names its attempt.
 use Rattle.std.specs.Prelude.{◌≡◌, ◌<◌, ◌≤◌, ◌+◌, ℕ, true, List, Option, Some, find}
-use Rattle.mk_lists.specs.Among.{Among}
 use Rattle.mk_txn.specs.declared.TxnId.{TxnId}
-use Rattle.mk_txn.specs.declared.Vote.TheVariants.{Ok as VoteOk}
-use Rattle.mk_txn.specs.declared.Cause.{Cause}
-use Rattle.mk_txn.specs.declared.Outcome.TheVariants.{Commit, Abort}
 use Rattle.mk_txn.specs.Transactions.{Transaction}
-use Rattle.mk_cell.specs.declared.Act.TheVariants.{CommitRead, CommitWrite, ReleaseRead, ReleaseWrite}
 use Rattle.mk_column.specs.ColumnState.{ClientState, AttemptState, attempt_of, is_client, is_attempt}
-use Rattle.mk_agreement.specs.Moments.{PastAct, PastEntry}
 use Rattle.mk_agreement.specs.Laws.{AlwaysHolds}
 
 -- the client of this number
@@ -54,10 +48,3 @@ abbrev pub StampsName : Type 0
 StampsName =
     AlwaysHolds (λ taught m. (id other : TxnId) (a b : AttemptState) (txn same : Transaction) → attempt_of m.column id ≡ Some a → attempt_of m.column other ≡ Some b →
     a.txn ≡ Some txn → b.txn ≡ Some same → txn.stamp ≡ same.stamp → id ≡ other)
-
--- where a replica voted Ok for an attempt, a release of its stamp there is since the attempt is final there with Abort
-abbrev pub StampReleased : Type 0
-StampReleased =
-    AlwaysHolds (λ taught m. (act : PastAct) (id : TxnId) (entry : PastEntry) (voted : ℕ) → Among act m.past.acts → m.past.entries act.replica id ≡ Some entry →
-    entry.vote ≡ Some (VoteOk, voted) → ((act.act ≡ ReleaseRead entry.txn.stamp) → (cause : Cause) × ((i : ℕ) × ((entry.last ≡ Some (Abort cause, i)) × (i ≤ act.round))))
-    × ((act.act ≡ ReleaseWrite entry.txn.stamp) → (cause : Cause) × ((i : ℕ) × ((entry.last ≡ Some (Abort cause, i)) × (i ≤ act.round)))))

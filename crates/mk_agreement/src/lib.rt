@@ -2,7 +2,8 @@
 #![tactic(auto)]
 
 ghost use Rattle.mk_agreement.specs.Laws.{EventsMove, ColumnsGrow, FactsHold, EntriesChangeWhereServed, RecordsMatch, MessagesAreOf, AcceptIsProposal, OneProposal, VotedTrue, AcceptedTrue, ToldTrue, MovedTrue, AcceptedWasProposed, FinalWasSent, OwnGrounds, FastGrounds, TakeoverGrounds, ViewsAgree, FastForbids, OneDecision, CommitSupport, LearnedBacked, BackingStays};
-ghost use Rattle.mk_agreement.specs.ActLaws.{ActsHaveOrigin, ChecksOfOk, RefusalOfAbort, ReleasesOfOk};
+ghost use Rattle.mk_agreement.specs.ActLaws.{ActsHaveOrigin, ChecksOfOk, RefusalOfAbort, ReleasesOfOk, StampReleased, CommitsOfFinal, ChecksOfStamp, NoCheckAfterCommit};
+ghost use Rattle.mk_agreement.specs.Identity.{IdsOnce, StampsName};
 ghost use Rattle.mk_agreement.specs.FirstEpoch.{OneDecisionInFirstEpoch, LearningsAreDecided, LearningsAgree};
 
 /// What each event does, that it only adds to what is there, and what holds at every moment.
@@ -12,6 +13,12 @@ pub fn events_are_sorted()
     ensures facts_hold { FactsHold }
     ensures entries_change_where_served { EntriesChangeWhereServed }
     ensures records_match { RecordsMatch }
+{}
+
+/// Attempts are numbered, stamps rise, and a stamp names its attempt.
+pub fn stamps_name_attempts()
+    ensures ids_once { IdsOnce }
+    ensures stamps_name { StampsName }
 {}
 
 /// What each message says for ever.
@@ -50,6 +57,10 @@ pub fn key_acts_have_origins()
     ensures checks_of_ok { ChecksOfOk }
     ensures refusal_of_abort { RefusalOfAbort }
     ensures releases_of_ok { ReleasesOfOk }
+    ensures stamp_released { StampReleased }
+    ensures commits_of_final { CommitsOfFinal }
+    ensures checks_of_stamp { ChecksOfStamp }
+    ensures no_check_after_commit { NoCheckAfterCommit }
 {}
 
 /// Where no epoch changes, an attempt has one decision.
