@@ -16,7 +16,7 @@ use Rattle.mk_agreement.specs.Moments.Event.{NewRound, Doing}
 use Rattle.mk_agreement.specs.Facts.{Facts, WorkFacts}
 use Rattle.mk_agreement.specs.KeyActs.{ActFacts, IsReleasing, ReleaseReason}
 use Rattle.mk_agreement.specs.KeyActs.ActMove.{NoAct}
-use Rattle.mk_agreement.specs.ActLaws.{ActsHaveOrigin, ChecksOfOk, RefusalOfAbort, ReleasesOfOk}
+use Rattle.mk_agreement.specs.ActLaws.{ActsHold, ActsHaveOrigin, ChecksOfOk, RefusalOfAbort, ReleasesOfOk}
 use Rattle.mk_agreement.proofs.Lookups.{some_same}
 use Rattle.mk_agreement.proofs.Growing.{none_some}
 use Rattle.mk_agreement.proofs.ActMoves.{act_moves}
@@ -70,6 +70,9 @@ ok_or_abort i j c e =
     let pair : (VoteOk, i) ≡ (VoteAbort c, j) = some_same (VoteOk, i) (VoteAbort c, j) e in
     let vote : VoteOk ≡ VoteAbort c = ap (λ (z : Vote × ℕ). z.0) pair in
     cc vote
+
+pub acts_hold : ActsHold
+acts_hold taught stays m r = reached_acts taught stays m r
 
 pub acts_have_origin : ActsHaveOrigin
 acts_have_origin taught stays m r act a = (reached_acts taught stays m r).origins act a

@@ -13,8 +13,12 @@ use Rattle.mk_cell.specs.declared.Act.TheVariants.{CheckRead, CheckWrite, Commit
 use Rattle.mk_cell.specs.declared.Answer.TheVariants.{Okay, Refused}
 use Rattle.mk_valid.specs.Checks.{KeyAct, checks, commits_of}
 use Rattle.mk_agreement.specs.Moments.{Moment, PastAct, PastEntry}
-use Rattle.mk_agreement.specs.KeyActs.{ActOrigin, WasDone, IsInEpoch, ReleaseReason}
+use Rattle.mk_agreement.specs.KeyActs.{ActFacts, ActOrigin, WasDone, IsInEpoch, ReleaseReason}
 use Rattle.mk_agreement.specs.Laws.{AlwaysHolds}
+
+-- all that holds of key acts at every moment, as one record; also of the key calls under way
+abbrev pub ActsHold : Type 0
+ActsHold = AlwaysHolds (λ taught m. ActFacts m)
 
 -- each act but a read is a check, a release or a commit of an attempt's transaction, done where its epoch was served;
 -- a commit is done since the entry is final with Commit, and a release for one of three reasons

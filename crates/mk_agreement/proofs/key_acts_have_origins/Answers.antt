@@ -6,6 +6,7 @@ use Rattle.mk_agreement.proofs.key_acts_have_origins.Goals as goal
 pub returns : goal.returns
 returns c =
     record {
+      acts_hold = laws.acts_hold;
       acts_have_origin = laws.acts_have_origin;
       checks_of_ok = laws.checks_of_ok;
       refusal_of_abort = laws.refusal_of_abort;
