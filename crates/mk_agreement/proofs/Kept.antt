@@ -115,7 +115,7 @@ module _ (taught : Taught) (stays : StaysTaught taught) (m next : Moment) (h : F
   pub moved_backed : (id : TxnId) (r v : ℕ) (moved : Moved) (o : Outcome) → Sent m.column.link id r v (MovedBody moved) → moved_outcome moved ≡ Some o → IsBacked taught next id o next.past.now
   moved_backed id r v moved o s e =
       let k = h.messages (msg_of s.0 id r v (MovedBody moved)) s.1 in
-      backed_later id o (inr (k.0.attempt, k.0.found, subst (λ (n : ℕ). taught id n o m.past.now ≡ true) (sym k.0.same_epoch) (k.1 o e)))
+      backed_later id o (inr (k.0.attempt, k.0.found, subst (λ (n : ℕ). taught id n o m.past.now ≡ true) (sym k.0.same_epoch) (k.1.1 o e)))
 
   -- by a Decide
   pub decide_backed : (id : TxnId) (r v : ℕ) (o : Outcome) → Sent m.column.link id r v (Decide o) → IsBacked taught m id o m.past.now

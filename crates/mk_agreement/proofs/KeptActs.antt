@@ -59,7 +59,7 @@ releases_among txn [] k r a = absurd a
 releases_among txn (c ∷ passed) k r (inl e) = subst (λ (x : KeyAct). Among x (releases_of txn)) e (release_among txn c (k c (inl refl)))
 releases_among txn (c ∷ passed) k r (inr a) = releases_among txn passed (λ d b. k d (inr b)) r a
 
-first_among : (acts : List KeyAct) (act : KeyAct) → first_of acts ≡ Some act → Among act acts
+pub first_among : (acts : List KeyAct) (act : KeyAct) → first_of acts ≡ Some act → Among act acts
 first_among [] act e = absurd (cc e)
 first_among (x ∷ acts) act e = inl (some_same x act e)
 

@@ -213,7 +213,7 @@ module _ (taught : Taught) (stays : StaysTaught taught) (m next : Moment) (h : F
   says_newborn msg (PromiseSent txn sent b last le new w) = subst (Says taught next msg) (sym b)
       (promise_told msg.id msg.replica msg.view msg.epoch txn (m.past.entries msg.replica msg.id) refl sent last le new w (λ u s. accepts_at msg.id msg.replica u _ new s))
   says_newborn msg (MovedSent view b v served lt) = subst (Says taught next msg) (sym b)
-      (λ o e. stays msg.id msg.epoch o m.past.now next.past.now moves.rises (h.round.teaches msg.replica view msg.id msg.epoch o v served lt e))
+      (lt, λ o e. stays msg.id msg.epoch o m.past.now next.past.now moves.rises (h.round.teaches msg.replica view msg.id msg.epoch o v served lt e))
 
   -- ---- what is learned
 

@@ -23,3 +23,8 @@ pub mod OneEpoch
 pub mod ActMoves
 pub mod KeptActs
 pub mod RoundActs
+pub mod Tables
+pub mod Identities
+pub mod IdentitySteps
+pub mod ActStamps
+pub mod OrderedActs

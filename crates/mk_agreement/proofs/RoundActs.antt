@@ -16,7 +16,7 @@ use Rattle.mk_agreement.specs.Moments.Event.{NewRound, Doing}
 use Rattle.mk_agreement.specs.Facts.{Facts, WorkFacts}
 use Rattle.mk_agreement.specs.KeyActs.{ActFacts, IsReleasing, ReleaseReason}
 use Rattle.mk_agreement.specs.KeyActs.ActMove.{NoAct}
-use Rattle.mk_agreement.specs.ActLaws.{ActsHaveOrigin, ChecksOfOk, RefusalOfAbort, ReleasesOfOk}
+use Rattle.mk_agreement.specs.ActLaws.{ActsHold, ActsHaveOrigin, ChecksOfOk, RefusalOfAbort, ReleasesOfOk}
 use Rattle.mk_agreement.proofs.Lookups.{some_same}
 use Rattle.mk_agreement.proofs.Growing.{none_some}
 use Rattle.mk_agreement.proofs.ActMoves.{act_moves}
@@ -37,7 +37,7 @@ serving_now now served before e = by (now + 1 == now + 1) refl
     by true q = e
     by false q = absurd (grind (arith, nat_tests, q))
 
-start_acts : (version f keys : ℕ) (clients : List ℕ) → ActFacts (first_moment version f keys clients)
+pub start_acts : (version f keys : ℕ) (clients : List ℕ) → ActFacts (first_moment version f keys clients)
 start_acts version f keys clients =
     record {
       votes = λ r id e k. absurd (cc k);
@@ -47,7 +47,7 @@ start_acts version f keys clients =
     }
 
 module _ (taught : Taught) (stays : StaysTaught taught) where
-  event_acts : (m : Moment) → Facts taught m → ActFacts m → (event : Event) → CanHappen taught event m → ActFacts (after_event event m)
+  pub event_acts : (m : Moment) → Facts taught m → ActFacts m → (event : Event) → CanHappen taught event m → ActFacts (after_event event m)
   event_acts m h k (NewRound views resets) can =
       acts_kept taught m (round_begun views resets m) h (event_moves taught stays m h (NewRound views resets) can) (NoAct refl can.idle) k
       (λ i r epoch le e. served_before views m.past.now i r epoch (m.past.served_in i r epoch) le e)
@@ -70,6 +70,9 @@ ok_or_abort i j c e =
     let pair : (VoteOk, i) ≡ (VoteAbort c, j) = some_same (VoteOk, i) (VoteAbort c, j) e in
     let vote : VoteOk ≡ VoteAbort c = ap (λ (z : Vote × ℕ). z.0) pair in
     cc vote
+
+pub acts_hold : ActsHold
+acts_hold taught stays m r = reached_acts taught stays m r
 
 pub acts_have_origin : ActsHaveOrigin
 acts_have_origin taught stays m r act a = (reached_acts taught stays m r).origins act a

@@ -57,7 +57,7 @@ module _ (taught : Taught) (stays : StaysTaught taught) (m : Moment) (h : Facts 
 
 -- ---- a round begins
 
-reset_attempts : (resets : List ℕ) (c : ColumnState) → (replicas_reset resets c).attempts ≡ c.attempts
+pub reset_attempts : (resets : List ℕ) (c : ColumnState) → (replicas_reset resets c).attempts ≡ c.attempts
 reset_attempts [] c = refl
 reset_attempts (r ∷ resets) c = reset_attempts resets (replica_reset r c)
 
@@ -109,7 +109,7 @@ reset_at (q ∷ resets) c r = by (reset_at resets (replica_reset q c) r) (same_o
     by (inl same) (inr ne) = inl (same ∙ get_or-set_other c.records q r [] [] ne)
     by (inr k) here = inr (k.0, named k.1)
 
-find-map : (f : AttemptState → AttemptState) (id : TxnId) → ((a : AttemptState) → (f a).id ≡ a.id) → (attempts : List AttemptState) → find (is_attempt id) (map f attempts) ≡ option_map f (find (is_attempt id) attempts)
+pub find-map : (f : AttemptState → AttemptState) (id : TxnId) → ((a : AttemptState) → (f a).id ≡ a.id) → (attempts : List AttemptState) → find (is_attempt id) (map f attempts) ≡ option_map f (find (is_attempt id) attempts)
 find-map f id same [] = refl
 find-map f id same (a ∷ attempts) =
     let k : is_attempt id (f a) ≡ is_attempt id a = ap (λ (x : TxnId). same_id x id) (same a) in

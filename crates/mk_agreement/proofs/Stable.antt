@@ -155,7 +155,7 @@ module _ (taught : Taught) (stays : StaysTaught taught) (m next : Moment) (g : G
   Says-grows msg (Voted w) k = let b = g.entries msg.replica msg.id k.0 k.1 in (b.0, b.1, (k.2.0, b.2.vote (w, k.2.0) k.2.1))
   Says-grows msg AcceptedBody k = AcceptFacts-grows msg.id msg.replica msg.view k
   Says-grows msg (ToldBody t) k = ToldFacts-grows msg.id msg.replica msg.view t k
-  Says-grows msg (MovedBody moved) k = λ o e. stays msg.id msg.epoch o m.past.now next.past.now g.now (k o e)
+  Says-grows msg (MovedBody moved) k = (k.0, λ o e. stays msg.id msg.epoch o m.past.now next.past.now g.now (k.1 o e))
 
   -- ---- coordinators and entries that stay as they are
 

@@ -1,5 +1,5 @@
 -- The laws, from what holds at every moment.
-use Rattle.std.proofs.Common.{◌≡◌, ◌⊎◌, ◌∙◌, ℕ, suc, true, arith, inl, inr, sym, ap, subst, Option, Some}
+use Rattle.std.proofs.Common.{refl, ◌≡◌, ◌⊎◌, ◌∙◌, ℕ, suc, true, arith, inl, inr, sym, ap, subst, Option, Some, ◌<◌, None}
 use Rattle.std.specs.Prelude.{option_map, slice_get}
 use Rattle.mk_txn.specs.declared.TxnId.{TxnId}
 use Rattle.mk_txn.specs.declared.Outcome.{Outcome}
@@ -14,7 +14,7 @@ use Rattle.mk_agreement.specs.Decided.{IsDecided}
 use Rattle.mk_agreement.specs.Moves.{EntryMove, ServesAttempt, HasProposed, IsMatched, entry_of_past}
 use Rattle.mk_agreement.specs.Moves.EntryMove.{EntryStays, EntryOpens, EntryVotes, EntryPromises, EntryAccepts, EntryFinishes}
 use Rattle.mk_agreement.specs.Facts.{Facts, FastFacts, IsBacked}
-use Rattle.mk_agreement.specs.Laws.{EventsMove, ColumnsGrow, FactsHold, EntriesChangeWhereServed, RecordsMatch, MessagesAreOf, AcceptIsProposal, OneProposal, VotedTrue, AcceptedTrue, ToldTrue, MovedTrue, AcceptedWasProposed, FinalWasSent, OwnGrounds, FastGrounds, TakeoverGrounds, ViewsAgree, FastForbids, OneDecision, CommitSupport, LearnedBacked, BackingStays}
+use Rattle.mk_agreement.specs.Laws.{MovedIsLater, RecordsKept, RecordIsPast, CountsBacked, EventsMove, ColumnsGrow, FactsHold, EntriesChangeWhereServed, RecordsMatch, MessagesAreOf, AcceptIsProposal, OneProposal, VotedTrue, AcceptedTrue, ToldTrue, MovedTrue, AcceptedWasProposed, FinalWasSent, OwnGrounds, FastGrounds, TakeoverGrounds, ViewsAgree, FastForbids, OneDecision, CommitSupport, LearnedBacked, BackingStays}
 use Rattle.mk_agreement.proofs.Lookups.{some_same}
 use Rattle.mk_agreement.proofs.Choices.{chosen_kept, fast_kept, by_votes-fast}
 use Rattle.mk_agreement.proofs.Agreed.{Decided, IsFast, decided_agree}
@@ -80,7 +80,7 @@ told_true taught stays m reached id r v told s = told_says taught m (reached_fac
 pub moved_true : MovedTrue
 moved_true taught stays m reached id r v moved o s e =
     let k = (reached_facts taught stays m reached).messages (msg_of s.0 id r v (MovedBody moved)) s.1 in
-    (k.0.attempt, k.0.found, subst (λ (n : ℕ). taught id n o m.past.now ≡ true) (sym k.0.same_epoch) (k.1 o e))
+    (k.0.attempt, k.0.found, subst (λ (n : ℕ). taught id n o m.past.now ≡ true) (sym k.0.same_epoch) (k.1.1 o e))
 
 pub accepted_was_proposed : AcceptedWasProposed
 accepted_was_proposed taught stays m reached r id entry a found e = ((reached_facts taught stays m reached).entries r id entry found).accepted a e
@@ -158,3 +158,35 @@ learned_backed taught stays m reached id =
 pub backing_stays : BackingStays
 backing_stays taught stays m reached events happens id o i j le b =
     IsBacked-grows taught stays m (moment_through m events) (grows_through taught stays m (reached_facts taught stays m reached) events happens) id o i j le b
+
+pub moved_is_later : MovedIsLater
+moved_is_later taught stays m reached id r v moved s =
+    let k = (reached_facts taught stays m reached).messages (msg_of s.0 id r v (MovedBody moved)) s.1 in
+    (k.0.attempt, k.0.found, subst (λ (n : ℕ). n < moved.to) (sym k.0.same_epoch) k.1.0)
+
+pub records_kept : RecordsKept
+records_kept taught stays m reached r id a found here = by ((reached_facts taught stays m reached).matched r id)
+  where
+    by : IsMatched m r id → entry_of id (entries_at m.column r) ≡ option_map entry_of_past (m.past.entries r id)
+    by (inl e) = e
+    by (inr k) =
+        let left = subst (λ (x : AttemptState). m.past.has_left r x.epoch ≡ true) (some_same k.1.0 a (sym k.1.1 ∙ found)) k.1.2 in
+        absurd (cc (here, left))
+
+pub record_is_past : RecordIsPast
+record_is_past taught stays m reached r id entry found = by ((reached_facts taught stays m reached).matched r id) (m.past.entries r id) refl
+  where
+    by : IsMatched m r id → (o : Option PastEntry) → m.past.entries r id ≡ o → (past : PastEntry) × (m.past.entries r id ≡ Some past) × (entry ≡ entry_of_past past)
+    by (inl e) None is = absurd (let k : entry_of id (entries_at m.column r) ≡ None = e ∙ ap (option_map entry_of_past) is in cc (k, found))
+    by (inl e) (Some past) is = (past, is, some_same entry (entry_of_past past) (sym found ∙ e ∙ ap (option_map entry_of_past) is))
+    by (inr k) o is = absurd (let none = k.0 in cc (none, found))
+
+pub counts_backed : CountsBacked
+counts_backed taught stays m reached id =
+    let h = reached_facts taught stays m reached in
+    record {
+      votes = λ a r vote found e. (h.attempts id a found).votes r vote e;
+      accepts = λ a r b found e. (h.attempts id a found).accepts r b e;
+      told = λ v t r told found e. ((h.takeovers id v t found).told r told e).0;
+      takeover_accepts = λ v t r b found e. (h.takeovers id v t found).accepts r b e;
+    }

@@ -110,7 +110,8 @@ Says taught m msg (Voted vote) =
     (entry : PastEntry) × (m.past.entries msg.replica msg.id ≡ Some entry) × ((round : ℕ) × (entry.vote ≡ Some (vote, round)))
 Says taught m msg AcceptedBody = AcceptFacts m msg.replica msg.id msg.view
 Says taught m msg (ToldBody told) = ToldFacts m msg.replica msg.id msg.view told
-Says taught m msg (MovedBody moved) = (outcome : Outcome) → moved_outcome moved ≡ Some outcome → taught msg.id msg.epoch outcome m.past.now ≡ true
+Says taught m msg (MovedBody moved) =
+    (msg.epoch < moved.to) × ((outcome : Outcome) → moved_outcome moved ≡ Some outcome → taught msg.id msg.epoch outcome m.past.now ≡ true)
 
 -- ---- coordinators
 

@@ -1,13 +1,15 @@
 -- The laws of one column: of what was sent and counted, of views, of decisions, and of what is learned.
 -- Each is about every moment that events can reach, whatever a later epoch has taught.
-use Rattle.std.specs.Prelude.{◌≡◌, ◌⊎◌, ◌<◌, ◌≤◌, ℕ, true, List, Option, Some, option_map, slice_get}
+use Rattle.std.specs.Prelude.{◌≡◌, ◌⊎◌, ◌<◌, ◌≤◌, ℕ, true, List, Option, Some, option_map, slice_get, Bool, false}
 use Rattle.mk_lists.specs.Among.{Among}
 use Rattle.mk_txn.specs.declared.TxnId.{TxnId}
 use Rattle.mk_txn.specs.declared.Vote.{Vote}
 use Rattle.mk_txn.specs.declared.Accepted.{Accepted}
 use Rattle.mk_txn.specs.declared.Outcome.{Outcome}
 use Rattle.mk_txn.specs.Outcomes.{is_commit, agrees}
+use Rattle.mk_record.specs.declared.Entry.{Entry}
 use Rattle.mk_record.specs.Entries.{entry_of}
+use Rattle.mk_quorum.specs.Slots.{slot}
 use Rattle.mk_msg.specs.declared.Told.{Told}
 use Rattle.mk_msg.specs.declared.Moved.{Moved}
 use Rattle.mk_msg.specs.declared.Msg.{Msg}
@@ -58,6 +60,18 @@ RecordsMatch =
     AlwaysHolds (λ taught m. (r : ℕ) (id : TxnId) (a : AttemptState) → attempt_of m.column id ≡ Some a → serves a.epoch (slice_get m.round.views r) ≡ true →
     entry_of id (entries_at m.column r) ≡ option_map entry_of_past (m.past.entries r id))
 
+-- the same where the replica was not reset since it served the attempt's epoch, whatever it does now
+abbrev pub RecordsKept : Type 0
+RecordsKept =
+    AlwaysHolds (λ taught m. (r : ℕ) (id : TxnId) (a : AttemptState) → attempt_of m.column id ≡ Some a → m.past.has_left r a.epoch ≡ false →
+    entry_of id (entries_at m.column r) ≡ option_map entry_of_past (m.past.entries r id))
+
+-- what is in a record is remembered
+abbrev pub RecordIsPast : Type 0
+RecordIsPast =
+    AlwaysHolds (λ taught m. (r : ℕ) (id : TxnId) (entry : Entry) → entry_of id (entries_at m.column r) ≡ Some entry →
+    (past : PastEntry) × (m.past.entries r id ≡ Some past) × (entry ≡ entry_of_past past))
+
 -- ---- messages and answers
 
 -- each message is of a stamped attempt, in its epoch
@@ -93,6 +107,22 @@ abbrev pub MovedTrue : Type 0
 MovedTrue =
     AlwaysHolds (λ taught m. (id : TxnId) (r view : ℕ) (moved : Moved) (outcome : Outcome) → Sent m.column.link id r view (MovedBody moved) →
     moved_outcome moved ≡ Some outcome → IsTaught taught m id outcome m.past.now)
+
+-- a Moved is of an epoch later than the attempt's
+abbrev pub MovedIsLater : Type 0
+MovedIsLater =
+    AlwaysHolds (λ taught m. (id : TxnId) (r view : ℕ) (moved : Moved) → Sent m.column.link id r view (MovedBody moved) →
+    (a : AttemptState) × (attempt_of m.column id ≡ Some a) × (a.epoch < moved.to))
+
+-- what an own coordinator and a takeover have counted was sent
+pub record CountsOf (m : Moment) (id : TxnId) : Type 0 where
+  pub votes : (a : AttemptState) (r : ℕ) (vote : Vote) → attempt_of m.column id ≡ Some a → slot a.coord.votes r ≡ Some vote → Sent m.column.link id r 0 (Voted vote)
+  pub accepts : (a : AttemptState) (r : ℕ) (b : Bool) → attempt_of m.column id ≡ Some a → slot a.coord.accepts r ≡ Some b → Sent m.column.link id r 0 AcceptedBody
+  pub told : (view : ℕ) (t : TakeoverOf) (r : ℕ) (told : Told) → takeover_of m.column id view ≡ Some t → slot t.state.told r ≡ Some told → Sent m.column.link id r view (ToldBody told)
+  pub takeover_accepts : (view : ℕ) (t : TakeoverOf) (r : ℕ) (b : Bool) → takeover_of m.column id view ≡ Some t → slot t.state.accepts r ≡ Some b → Sent m.column.link id r view AcceptedBody
+
+abbrev pub CountsBacked : Type 0
+CountsBacked = AlwaysHolds (λ taught m. (id : TxnId) → CountsOf m id)
 
 -- an accepted outcome was proposed in its view, which is not above the entry's
 abbrev pub AcceptedWasProposed : Type 0

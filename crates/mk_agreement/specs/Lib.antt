@@ -7,4 +7,5 @@ pub mod Facts
 pub mod KeyActs
 pub mod Laws
 pub mod ActLaws
+pub mod Identity
 pub mod FirstEpoch

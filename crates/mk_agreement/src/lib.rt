@@ -1,8 +1,9 @@
 //! One column is safe: the laws of its events over all rounds.
 #![tactic(auto)]
 
-ghost use Rattle.mk_agreement.specs.Laws.{EventsMove, ColumnsGrow, FactsHold, EntriesChangeWhereServed, RecordsMatch, MessagesAreOf, AcceptIsProposal, OneProposal, VotedTrue, AcceptedTrue, ToldTrue, MovedTrue, AcceptedWasProposed, FinalWasSent, OwnGrounds, FastGrounds, TakeoverGrounds, ViewsAgree, FastForbids, OneDecision, CommitSupport, LearnedBacked, BackingStays};
-ghost use Rattle.mk_agreement.specs.ActLaws.{ActsHaveOrigin, ChecksOfOk, RefusalOfAbort, ReleasesOfOk};
+ghost use Rattle.mk_agreement.specs.Laws.{MovedIsLater, RecordsKept, RecordIsPast, CountsBacked, EventsMove, ColumnsGrow, FactsHold, EntriesChangeWhereServed, RecordsMatch, MessagesAreOf, AcceptIsProposal, OneProposal, VotedTrue, AcceptedTrue, ToldTrue, MovedTrue, AcceptedWasProposed, FinalWasSent, OwnGrounds, FastGrounds, TakeoverGrounds, ViewsAgree, FastForbids, OneDecision, CommitSupport, LearnedBacked, BackingStays};
+ghost use Rattle.mk_agreement.specs.ActLaws.{ActsHold, ActsHaveOrigin, ChecksOfOk, RefusalOfAbort, ReleasesOfOk, StampReleased, CommitsOfFinal, ChecksOfStamp, NoCheckAfterCommit};
+ghost use Rattle.mk_agreement.specs.Identity.{IdsOnce, StampsName};
 ghost use Rattle.mk_agreement.specs.FirstEpoch.{OneDecisionInFirstEpoch, LearningsAreDecided, LearningsAgree};
 
 /// What each event does, that it only adds to what is there, and what holds at every moment.
@@ -12,6 +13,14 @@ pub fn events_are_sorted()
     ensures facts_hold { FactsHold }
     ensures entries_change_where_served { EntriesChangeWhereServed }
     ensures records_match { RecordsMatch }
+    ensures records_kept { RecordsKept }
+    ensures record_is_past { RecordIsPast }
+{}
+
+/// Attempts are numbered, stamps rise, and a stamp names its attempt.
+pub fn stamps_name_attempts()
+    ensures ids_once { IdsOnce }
+    ensures stamps_name { StampsName }
 {}
 
 /// What each message says for ever.
@@ -23,6 +32,8 @@ pub fn messages_are_true()
     ensures accepted_true { AcceptedTrue }
     ensures told_true { ToldTrue }
     ensures moved_true { MovedTrue }
+    ensures moved_is_later { MovedIsLater }
+    ensures counts_backed { CountsBacked }
     ensures accepted_was_proposed { AcceptedWasProposed }
     ensures final_was_sent { FinalWasSent }
 {}
@@ -46,10 +57,15 @@ pub fn learnings_are_backed()
 
 /// Where key acts come from, and what votes tell of them.
 pub fn key_acts_have_origins()
+    ensures acts_hold { ActsHold }
     ensures acts_have_origin { ActsHaveOrigin }
     ensures checks_of_ok { ChecksOfOk }
     ensures refusal_of_abort { RefusalOfAbort }
     ensures releases_of_ok { ReleasesOfOk }
+    ensures stamp_released { StampReleased }
+    ensures commits_of_final { CommitsOfFinal }
+    ensures checks_of_stamp { ChecksOfStamp }
+    ensures no_check_after_commit { NoCheckAfterCommit }
 {}
 
 /// Where no epoch changes, an attempt has one decision.

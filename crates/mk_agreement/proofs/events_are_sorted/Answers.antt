@@ -9,4 +9,6 @@ returns c =
       facts_hold = laws.facts_hold;
       entries_change_where_served = laws.entries_change_where_served;
       records_match = laws.records_match;
+      records_kept = laws.records_kept;
+      record_is_past = laws.record_is_past;
     }

@@ -11,6 +11,8 @@ returns c =
       accepted_true = laws.accepted_true;
       told_true = laws.told_true;
       moved_true = laws.moved_true;
+      moved_is_later = laws.moved_is_later;
+      counts_backed = laws.counts_backed;
       accepted_was_proposed = laws.accepted_was_proposed;
       final_was_sent = laws.final_was_sent;
     }
