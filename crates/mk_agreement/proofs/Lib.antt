@@ -28,3 +28,4 @@ pub mod Identities
 pub mod IdentitySteps
 pub mod ActStamps
 pub mod OrderedActs
+pub mod Readings
