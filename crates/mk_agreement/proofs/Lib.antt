@@ -29,3 +29,4 @@ pub mod IdentitySteps
 pub mod ActStamps
 pub mod OrderedActs
 pub mod Readings
+mod FirstRound
