@@ -18,17 +18,18 @@ use Rattle.mk_valid.specs.Validations.{ValidationState, next_act, after_answer, 
 use Rattle.mk_column.specs.declared.KeyCall.{KeyCall}
 use Rattle.mk_column.specs.declared.Step.{Step}
 use Rattle.mk_column.specs.declared.Step.TheVariants.{Begin, Unread, Read, Stamp, Validate, Take, Key, Rule, Again, Takeover, Pick as PickStep, Stop}
-use Rattle.mk_column.specs.ColumnState.{ColumnState, Work, entries_at}
+use Rattle.mk_column.specs.ColumnState.{ColumnState, AttemptState, Work, entries_at, attempt_of, is_attempt}
 use Rattle.mk_column.specs.ColumnState.Work.{Idle, Fetching, Validating, Finishing}
 use Rattle.mk_column.specs.Conditions.{conditions, same_call, call_at, wanted}
-use Rattle.mk_column.specs.Steps.{answered, validated}
+use Rattle.mk_txn.specs.declared.TxnId.{TxnId}
+use Rattle.mk_column.specs.Steps.{with_read, answered, validated}
 use Rattle.mk_column.proofs.Frames.{AllTrue}
 use Rattle.mk_agreement.specs.Moments.{Moment, Taught, step_done, act_of, remembered}
 use Rattle.mk_agreement.specs.Moves.{past_opened}
 use Rattle.mk_agreement.specs.Facts.{Facts}
 use Rattle.mk_agreement.specs.KeyActs.{ActMove}
 use Rattle.mk_agreement.specs.KeyActs.ActMove.{NoAct, ActFetched, ActChecked, ActVoted, ActFinished}
-use Rattle.mk_agreement.proofs.Lookups.{and_left, and_right}
+use Rattle.mk_agreement.proofs.Lookups.{and_left, and_right, find-change}
 use Rattle.mk_agreement.proofs.SortedEntries.{validated_entry}
 use Rattle.mk_agreement.proofs.SortedSteps.{idle_from}
 
@@ -92,10 +93,16 @@ module _ (taught : Taught) (m : Moment) (h : Facts taught m) where
         (subst (λ (c : ColumnState). remembered m.past.now (m.past.entries r txn.id) (entry_of txn.id (entries_at c r)) ≡ Some (record opened_one { vote = Some (vote_of (after_answer state answer), m.past.now) })) (sym path)
         (validated_entry taught m h (Key call answer) txn r ep state answer w))
 
+    fetched_then : (id : TxnId) (r key : ℕ) → m.column.work ≡ Fetching id r key → (a : AttemptState) → attempt_of m.column id ≡ Some a →
+        attempt_of (step_done (Key call answer) m).column id ≡ Some (with_read key answer a)
+    fetched_then id r key e a found =
+        ap (λ (w : Work). attempt_of (answered answer w m.column) id) e
+        ∙ find-change (is_attempt id) (with_read key answer) m.column.attempts (λ _. refl) ∙ ap (option_map (with_read key answer)) found
+
     key_move : (w : Work) → m.column.work ≡ w → passes (same_call call) (wanted w) ≡ true → ActMove m (step_done (Key call answer) m)
     key_move Idle e t = absurd (cc t)
     key_move (Fetching id r key) e t =
-        ActFetched id r key answer e (acts_then call (record { replica = r; key = key; act = Get }) answer (same_call-tells call (record { replica = r; key = key; act = Get }) t)) (work_then call answer (Fetching id r key) e)
+        ActFetched id r key answer e (λ a found. fetched_then id r key e a found) (acts_then call (record { replica = r; key = key; act = Get }) answer (same_call-tells call (record { replica = r; key = key; act = Get }) t)) (work_then call answer (Fetching id r key) e)
     key_move (Validating txn r ep state) e t = by (next_act state) refl t
       where
         by : (o : Option KeyAct) → next_act state ≡ o → passes (same_call call) (option_map (call_at r) o) ≡ true → ActMove m (step_done (Key call answer) m)

@@ -177,7 +177,7 @@ module _ (taught : Taught) (m next : Moment) (h : Facts taught m) (moves : Moves
       ((txn : Transaction) (epoch : ℕ) (state : ValidationState) → m.column.work ≡ Validating txn r epoch state → txn.id ≡ id → ⊥) →
       WorkMove m next m.column.work next.column.work → (txn : Transaction) (epoch : ℕ) (state : ValidationState) → next.column.work ≡ Validating txn r epoch state → txn.id ≡ id → ⊥
   still_rests r id e found rest (WorkRests idle) txn epoch state w own = cc (idle, w)
-  still_rests r id e found rest (WorkFetches x q key old new) txn epoch state w own = cc (new, w)
+  still_rests r id e found rest (WorkFetches x q key a there still reads home old new) txn epoch state w own = cc (new, w)
   still_rests r id e found rest (WorkFinishes q act left round old new stays) txn epoch state w own = cc (new, w)
   still_rests r id e found rest (WorkEnds t q x entry o left s round now old there last acts new) txn epoch state w own = cc (new, w)
   still_rests r id e found rest (WorkGoesOn t q ep s answer round old new stays) txn epoch state w own =
@@ -209,7 +209,7 @@ module _ (taught : Taught) (m next : Moment) (h : Facts taught m) (moves : Moves
 
   attempt_grows : (id : TxnId) (old new : Option AttemptState) → AttemptMove m next.column id old new → (a : AttemptState) → AttemptFacts taught m id a → old ≡ Some a → (b : AttemptState) × (new ≡ Some b) × AttemptGrows a b
   attempt_grows id old new (AttemptStays same) a f e = (a, same ∙ e, AttemptGrows-same a)
-  attempt_grows id old new (AttemptBegins x none n own coord txn) a f e = absurd (none_some old a none e)
+  attempt_grows id old new (AttemptBegins x none n own coord txn reads home) a f e = absurd (none_some old a none e)
   attempt_grows id old new (AttemptChanges x y is n change) a f e =
       let same = some_same x a (sym is ∙ e) in
       (y, n, change_grows taught m next.column id a y f (subst (λ (z : AttemptState). AttemptChange m next.column id z y) same change))

@@ -8,7 +8,7 @@ use Rattle.mk_txn.specs.declared.Stamp.{Stamp as StampType}
 use Rattle.mk_txn.specs.declared.ReadItem.{ReadItem}
 use Rattle.mk_txn.specs.declared.WriteItem.{WriteItem}
 use Rattle.mk_txn.specs.Stamps.{next_stamp_of, fresh_time, time_above_reads}
-use Rattle.mk_txn.specs.Transactions.{Transaction, same_id}
+use Rattle.mk_txn.specs.Transactions.{Transaction, same_id, is_above_reads}
 use Rattle.mk_column.specs.ColumnState.{ClientState, AttemptState, is_client, is_attempt}
 use Rattle.mk_column.specs.Steps.{next_id, begun, stamped_txn, with_txn, with_last_time}
 use Rattle.mk_agreement.specs.Identity.{Identity, IsClients, IsStampedBy, client_in, attempt_in}
@@ -85,7 +85,7 @@ aside clients clients' attempts attempts' h forth back there' before =
           let a = before id b e in
           let k = h.stamps id a.0 t a.1 (sym a.2.0 ∙ s) in
           let d = forth id.client k.client k.found in
-          record { client = d.0; found = d.1; of_client = k.of_client; from_one = k.from_one; not_above = omega (arith, k.not_above, d.2.0) };
+          record { client = d.0; found = d.1; of_client = k.of_client; from_one = k.from_one; not_above = omega (arith, k.not_above, d.2.0); above_reads = k.above_reads };
       rise = λ id other b c t u e f s r same less.
           let x = before id b e in
           let y = before other c f in
@@ -172,7 +172,7 @@ module _ (clients : List ClientState) (attempts : List AttemptState) (h : Identi
           stamps = λ id b t e s. elim (was id b e) [
             | inl old ↦ (let k = h.stamps id b t old s in
                 let d = kept_client id.client k.client k.found in
-                record { client = d.0; found = d.1; of_client = k.of_client; from_one = k.from_one; not_above = omega (arith, k.not_above, d.2.0) })
+                record { client = d.0; found = d.1; of_client = k.of_client; from_one = k.from_one; not_above = omega (arith, k.not_above, d.2.0); above_reads = k.above_reads })
             | inr k ↦ absurd (none_some b.txn t (ap (λ (x : AttemptState). x.txn) k.1 ∙ unstamped) s)
           ];
           rise = λ id other a b t u e f s r same less. elim (was id a e) [
@@ -238,7 +238,7 @@ module _ (clients : List ClientState) (attempts : List AttemptState) (h : Identi
   -- ---- an attempt is stamped
 
   module _ (a : AttemptState) (c : ClientState) (stamp : StampType) (writes : List WriteItem) (here : attempt_in attempts a.id ≡ Some a) (reads : a.reading ≡ true)
-      (found : client_in clients a.id.client ≡ Some c) (above : c.last_time < stamp.time) (by_client : stamp.client ≡ c.number) where
+      (found : client_in clients a.id.client ≡ Some c) (above : c.last_time < stamp.time) (by_client : stamp.client ≡ c.number) (above_all : is_above_reads stamp a.reads ≡ true) where
     stamped_client : (n : ℕ) (x : ClientState) → client_in clients n ≡ Some x →
         (d : ClientState) × (client_in (change (is_client a.id.client) (with_last_time stamp.time) clients) n ≡ Some d) × (d.next_seq ≡ x.next_seq) × (x.last_time ≤ d.last_time)
     stamped_client n x e =
@@ -270,6 +270,9 @@ module _ (clients : List ClientState) (attempts : List AttemptState) (h : Identi
         by : (x : AttemptState) → attempt_in attempts id ≡ Some x → (b ≡ x) ⊎ ((id ≡ a.id) × (b ≡ with_txn stamp writes x)) → (attempt_in attempts id ≡ Some b) ⊎ ((id ≡ a.id) × (b ≡ with_txn stamp writes a))
         by x f (inl same) = inl (f ∙ ap Some (sym same))
         by x f (inr k) = inr (k.0, k.1 ∙ ap (with_txn stamp writes) (some_same x a (sym f ∙ (λ i. attempt_in attempts (k.0 i)) ∙ here)))
+
+    the_reads : (b : AttemptState) (t : Transaction) → b ≡ with_txn stamp writes a → b.txn ≡ Some t → t.reads ≡ a.reads
+    the_reads b t same s = ap (λ (x : Transaction). x.reads) (some_same t (stamped_txn a stamp writes) (sym s ∙ ap (λ (x : AttemptState). x.txn) same))
 
     the_stamp : (b : AttemptState) (t : Transaction) → b ≡ with_txn stamp writes a → b.txn ≡ Some t → t.stamp ≡ stamp
     the_stamp b t same s = ap (λ (x : Transaction). x.stamp) (some_same t (stamped_txn a stamp writes) (sym s ∙ ap (λ (x : AttemptState). x.txn) same))
@@ -308,8 +311,8 @@ module _ (clients : List ClientState) (attempts : List AttemptState) (h : Identi
           stamps = λ id b t e s. elim (stamped_back id b e) [
             | inl old ↦ (let k = h.stamps id b t old s in
                 let d = stamped_client id.client k.client k.found in
-                record { client = d.0; found = d.1; of_client = k.of_client; from_one = k.from_one; not_above = omega (arith, k.not_above, d.3) })
-            | inr k ↦ subst (λ (x : TxnId). IsStampedBy (change (is_client a.id.client) (with_last_time stamp.time) clients) x t) (sym k.0) (stamped_now t (the_stamp b t k.1 s))
+                record { client = d.0; found = d.1; of_client = k.of_client; from_one = k.from_one; not_above = omega (arith, k.not_above, d.3); above_reads = k.above_reads })
+            | inr k ↦ subst (λ (x : TxnId). IsStampedBy (change (is_client a.id.client) (with_last_time stamp.time) clients) x t) (sym k.0) (stamped_now t (the_stamp b t k.1 s) (the_reads b t k.1 s))
           ];
           rise = λ id other x y t u e f s r same less. elim (stamped_back id x e) [
             | inl old ↦ elim (stamped_back other y f) [
@@ -344,8 +347,8 @@ module _ (clients : List ClientState) (attempts : List AttemptState) (h : Identi
             let quiet : b.reading ≡ false = ap (λ (x : AttemptState). x.reading) same in
             record { client = k.client; found = k.found; from_one = k.from_one; begun = k.begun; last_reads = λ r. absurd (cc (quiet, r)) }
 
-        stamped_now : (t : Transaction) → t.stamp ≡ stamp → IsStampedBy (change (is_client a.id.client) (with_last_time stamp.time) clients) a.id t
-        stamped_now t same =
+        stamped_now : (t : Transaction) → t.stamp ≡ stamp → t.reads ≡ a.reads → IsStampedBy (change (is_client a.id.client) (with_last_time stamp.time) clients) a.id t
+        stamped_now t same reads_same =
             let d = stamped_client a.id.client c found in
             let last = last_now d.0 d.1 in
             let time : t.stamp.time ≡ stamp.time = ap (λ (z : StampType). z.time) same in
@@ -355,6 +358,7 @@ module _ (clients : List ClientState) (attempts : List AttemptState) (h : Identi
               of_client = ap (λ (z : StampType). z.client) same ∙ by_client ∙ number_of clients a.id.client c found;
               from_one = omega (arith, time, above);
               not_above = omega (arith, time, last);
+              above_reads = (λ i. is_above_reads (same i) (reads_same i)) ∙ above_all;
             }
 
 -- a fresh stamp is above the client's last time
@@ -369,3 +373,23 @@ fresh_above client last clock reads stamp e = by (nat_lt (2 ^ 62) (fresh_time la
     by false k =
         let same : record { time = fresh_time last clock reads; client = client } ≡ stamp = some_same _ stamp k in
         (subst (λ (s : StampType). last < s.time) same (low clock (time_above_reads reads)), sym (ap (λ (s : StampType). s.client) same))
+
+-- and above all that was read
+above_items : (stamp : StampType) (items : List ReadItem) → time_above_reads items ≤ stamp.time → is_above_reads stamp items ≡ true
+above_items stamp [] le = refl
+above_items stamp (item ∷ items) le =
+    let first : item.version.time < stamp.time = grind (arith, nat_tests, le) in
+    let rest : time_above_reads items ≤ stamp.time = grind (arith, nat_tests, le) in
+    grind (arith, nat_tests, first, above_items stamp items rest)
+
+pub fresh_above_reads : (client last clock : ℕ) (reads : List ReadItem) (stamp : StampType) → next_stamp_of client last clock reads ≡ Some stamp → is_above_reads stamp reads ≡ true
+fresh_above_reads client last clock reads stamp e = by (nat_lt (2 ^ 62) (fresh_time last clock reads)) e
+  where
+    low : (x y z : ℕ) → z ≤ max x (max y z)
+    low x y z = grind (arith, nat_tests)
+
+    by : (b : Bool) → (if b then None else Some (record { time = fresh_time last clock reads; client = client })) ≡ Some stamp → is_above_reads stamp reads ≡ true
+    by true k = absurd (cc k)
+    by false k =
+        let same : record { time = fresh_time last clock reads; client = client } ≡ stamp = some_same _ stamp k in
+        above_items stamp reads (subst (λ (s : StampType). time_above_reads reads ≤ s.time) same (low clock (last + 1) (time_above_reads reads)))

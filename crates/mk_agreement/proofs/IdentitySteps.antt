@@ -39,7 +39,7 @@ use Rattle.mk_agreement.specs.Identity.{Identity, client_in, attempt_in, IdsOnce
 use Rattle.mk_agreement.proofs.Lookups.{some_same, there, and_right}
 use Rattle.mk_agreement.proofs.SortedAttempts.{attempt_id, own_number}
 use Rattle.mk_agreement.proofs.Tables.{find-among}
-use Rattle.mk_agreement.proofs.Identities.{aside, attempt_aside, client_aside, begins, stamps_one, fresh_above, number_of}
+use Rattle.mk_agreement.proofs.Identities.{aside, attempt_aside, client_aside, begins, stamps_one, fresh_above, fresh_above_reads, number_of}
 use Rattle.mk_agreement.proofs.Rounds.{find-map, reset_attempts}
 
 module _ (round : Setting) (column : ColumnState) (h : Identity column.clients column.attempts) where
@@ -67,7 +67,7 @@ module _ (round : Setting) (column : ColumnState) (h : Identity column.clients c
   stamp_one a c clock writes None e reads found is = h
   stamp_one a c clock writes (Some stamp) e reads found is =
       let f = fresh_above c.number c.last_time clock a.reads stamp is in
-      stamps_one column.clients column.attempts h a c stamp writes e reads found f.0 f.1
+      stamps_one column.clients column.attempts h a c stamp writes e reads found f.0 f.1 (fresh_above_reads c.number c.last_time clock a.reads stamp is)
 
   heard_number : (b : Body) (c : ClientState) → (heard_of b c).number ≡ c.number
   heard_number (MovedBody moved) c = refl

@@ -230,7 +230,7 @@ module _ (taught : Taught) (stays : StaysTaught taught) (m next : Moment) (h : F
 
     pub attempt_facts : (new : Option AttemptState) → AttemptMove m next.column id (attempt_of m.column id) new → (b : AttemptState) → new ≡ Some b → AttemptFacts taught next id b
     attempt_facts new (AttemptStays same) b e = AttemptFacts-grows taught stays m next (grows taught m next h moves) id b (h.attempts id b (sym same ∙ e))
-    attempt_facts new (AttemptBegins a none n own coord txn) b e = subst (AttemptFacts taught next id) (some_same a b (sym n ∙ e)) (empty_facts a own coord txn)
+    attempt_facts new (AttemptBegins a none n own coord txn reads home) b e = subst (AttemptFacts taught next id) (some_same a b (sym n ∙ e)) (empty_facts a own coord txn)
     attempt_facts new (AttemptChanges x y is n change) b e =
         subst (AttemptFacts taught next id) (some_same y b (sym n ∙ e))
         (change_facts x y is (AttemptFacts-grows taught stays m next (grows taught m next h moves) id x (h.attempts id x is)) change)

@@ -178,7 +178,7 @@ vote_before m next r id (Some x) new (EntryFinishes txn view o s sent last k w1)
 
 module _ (taught : Taught) (m next : Moment) (h : Facts taught m) (moves : Moves m next) (move : ActMove m next) (k : ActFacts m)
     (served_stays : (i r epoch : ℕ) → i ≤ m.past.now → m.past.served_in i r epoch ≡ true → next.past.served_in i r epoch ≡ true) where
-  acts_older : (act : PastAct) → Among act m.past.acts → Among act next.past.acts
+  pub acts_older : (act : PastAct) → Among act m.past.acts → Among act next.past.acts
   acts_older act a = by move
     where
       more : (new : PastAct) → next.past.acts ≡ m.past.acts ++ new ∷ [] → Among act next.past.acts
@@ -186,7 +186,7 @@ module _ (taught : Taught) (m next : Moment) (h : Facts taught m) (moves : Moves
 
       by : ActMove m next → Among act next.past.acts
       by (NoAct e idle) = subst (λ (l : List PastAct). Among act l) (sym e) a
-      by (ActFetched id r key answer w e w2) = more (act_now m r (key, Get) answer) e
+      by (ActFetched id r key answer w read e w2) = more (act_now m r (key, Get) answer) e
       by (ActChecked txn r ep state x answer now w is e w2) = more (act_now m r x answer) e
       by (ActVoted txn r ep state x answer now w is e none w2 entry) = more (act_now m r x answer) e
       by (ActFinished r x left answer now round w e w2) = more (act_now m r x answer) e
@@ -296,7 +296,7 @@ module _ (taught : Taught) (m next : Moment) (h : Facts taught m) (moves : Moves
         where
           by : ActMove m next → VoteActs next r id e
           by (NoAct acts idle) = absurd (cc (idle, w))
-          by (ActFetched x q key answer w3 acts w4) = absurd (cc (w3, w))
+          by (ActFetched x q key answer w3 read acts w4) = absurd (cc (w3, w))
           by (ActFinished q x left answer now round w3 acts w4) = absurd (cc (w3, w))
           by (ActChecked t q n s x answer now w3 is acts w4) = absurd (cc (w4, w2))
           by (ActVoted t q n s x answer now w3 is acts none w4 entry) =
@@ -326,7 +326,7 @@ module _ (taught : Taught) (m next : Moment) (h : Facts taught m) (moves : Moves
 
       by : ActMove m next → ReleaseReason next r id b i
       by (NoAct acts idle) = absurd (let q = w in cc (idle, q))
-      by (ActFetched x q key answer w3 acts w4) = absurd (let p = w in cc (w3, p))
+      by (ActFetched x q key answer w3 read acts w4) = absurd (let p = w in cc (w3, p))
       by (ActFinished q x left answer now round w3 acts w4) = absurd (let p = w in cc (w3, p))
       by (ActChecked t q n s x answer now w3 is acts w4) =
           let one : Validating t q n s ≡ Validating z.0 r z.1.0 z.1.1.0 = sym w3 ∙ w in
@@ -427,7 +427,7 @@ module _ (taught : Taught) (m next : Moment) (h : Facts taught m) (moves : Moves
 
       by : ActMove m next → (act.round ≤ next.past.now) × ActOrigin next act
       by (NoAct e idle) = old (subst (λ (l : List PastAct). Among act l) e a)
-      by (ActFetched id r key answer w e w2) = with_new r (key, Get) answer e (OfRead refl)
+      by (ActFetched id r key answer w read e w2) = with_new r (key, Get) answer e (OfRead refl)
       by (ActChecked txn r ep state x answer now w is e w2) =
           with_new r x answer e (validation_origin txn r ep state x answer now w is e
           (λ entry c there refused. inr (inl (txn, (ep, (after_answer state answer, (c, (w2, refl, refusal_stays state answer c refused))))))))
@@ -456,7 +456,7 @@ module _ (taught : Taught) (m next : Moment) (h : Facts taught m) (moves : Moves
 
   from_idle : (old new : Work) → old ≡ Idle → WorkMove m next old new → WorkActs next new
   from_idle old new idle (WorkRests e) = subst (WorkActs next) (sym e) tt
-  from_idle old new idle (WorkFetches id r key e n) = subst (WorkActs next) (sym n) tt
+  from_idle old new idle (WorkFetches id r key a found still reads home e n) = subst (WorkActs next) (sym n) tt
   from_idle old new idle (WorkValidates txn r epoch served same round lt e none there n) = subst (WorkActs next) (sym n) (begun_acts txn r epoch)
   from_idle old new idle (WorkGoesOn txn r epoch state answer round e n stay) = absurd (cc (idle, e))
   from_idle old new idle (WorkFinishes r act left round e n stay) = absurd (cc (idle, e))
@@ -499,7 +499,7 @@ module _ (taught : Taught) (m next : Moment) (h : Facts taught m) (moves : Moves
     where
       by : ActMove m next → WorkActs next next.column.work
       by (NoAct e idle) = from_idle m.column.work next.column.work idle moves.work
-      by (ActFetched id r key answer w e w2) = subst (WorkActs next) (sym w2) tt
+      by (ActFetched id r key answer w read e w2) = subst (WorkActs next) (sym w2) tt
       by (ActVoted txn r ep state x answer now w is e none w2 entry) = subst (WorkActs next) (sym w2) tt
       by (ActChecked txn r ep state x answer now w is e w2) = subst (WorkActs next) (sym w2) (went_on txn r ep state x answer now w is e)
       by (ActFinished r x left answer now round w e w2) = subst (WorkActs next) (sym w2) (finish_on r x left now round w)

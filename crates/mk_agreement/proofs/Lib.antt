@@ -28,3 +28,5 @@ pub mod Identities
 pub mod IdentitySteps
 pub mod ActStamps
 pub mod OrderedActs
+pub mod Readings
+mod FirstRound

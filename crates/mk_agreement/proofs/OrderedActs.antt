@@ -92,7 +92,7 @@ module _ (taught : Taught) (m : Moment) (h : Facts taught m) (k : ActFacts m) (o
 
   order_kept : (next : Moment) → ActMove m next → NoCheckFollows m.past.acts → NoCheckFollows next.past.acts
   order_kept next (NoAct e idle) o = subst NoCheckFollows (sym e) o
-  order_kept next (ActFetched id r key answer w e w2) o =
+  order_kept next (ActFetched id r key answer w read e w2) o =
       subst NoCheckFollows (sym e) (follows-push m.past.acts (act_now m r (key, Get) answer) o (λ act a stamp at commits chk. (read_is_none Get refl).0.1 stamp chk))
   order_kept next (ActChecked txn r ep state x answer now w is e w2) o =
       subst NoCheckFollows (sym e) (follows-push m.past.acts (act_now m r x answer) o (λ act a. validation_new txn r ep state x answer w is act a))

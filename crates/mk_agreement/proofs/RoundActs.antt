@@ -23,7 +23,7 @@ use Rattle.mk_agreement.proofs.ActMoves.{act_moves}
 use Rattle.mk_agreement.proofs.KeptActs.{acts_kept}
 use Rattle.mk_agreement.proofs.Rounds.{event_facts, event_moves, reached_facts, start_facts}
 
-served_before : (views : List ReplicaView) (now i r epoch : ℕ) (before : Bool) → i ≤ now → before ≡ true → (if i == now + 1 then serves epoch (slice_get views r) else before) ≡ true
+pub served_before : (views : List ReplicaView) (now i r epoch : ℕ) (before : Bool) → i ≤ now → before ≡ true → (if i == now + 1 then serves epoch (slice_get views r) else before) ≡ true
 served_before views now i r epoch before le e = by (i == now + 1) refl
   where
     by : (b : Bool) → (i == now + 1) ≡ b → (if b then serves epoch (slice_get views r) else before) ≡ true

@@ -116,10 +116,13 @@ find-map f id same (a ∷ attempts) =
     grind (arith, k, find-map f id same attempts)
 
 module _ (taught : Taught) (stays : StaysTaught taught) (m : Moment) (h : Facts taught m) (views : List ReplicaView) (resets : List ℕ) (fine : IsRound taught views resets m) where
-  attempts_then : (id : TxnId) → attempt_of (round_begun views resets m).column id ≡ option_map not_reading (attempt_of m.column id)
+  pub attempts_then : (id : TxnId) → attempt_of (round_begun views resets m).column id ≡ option_map not_reading (attempt_of m.column id)
   attempts_then id =
       ap (λ (l : List AttemptState). find (is_attempt id) (map not_reading l)) (reset_attempts resets m.column)
       ∙ find-map not_reading id (λ _. refl) m.column.attempts
+
+  none_then : (id : TxnId) → attempt_of m.column id ≡ None → (b : AttemptState) → attempt_of (round_begun views resets m).column id ≡ Some b → ⊥
+  none_then id e b f = let none : attempt_of (round_begun views resets m).column id ≡ None = attempts_then id ∙ ap (option_map not_reading) e in cc (none, f)
 
   pub round_moves : Moves m (round_begun views resets m)
   round_moves =
@@ -134,6 +137,8 @@ module _ (taught : Taught) (stays : StaysTaught taught) (m : Moment) (h : Facts 
         learnings = λ l a. inl (subst (λ (k : List Learning). Among l k) (reset_learned resets m.column) a);
         work = WorkRests (reset_work resets m.column ∙ fine.idle);
         rises = omega arith;
+        begun_stays = λ id a e. refl;
+        begun_now = λ id b e f. absurd (none_then id e b f);
         stays_ever = λ r epoch e. grind (arith, e);
       }
     where

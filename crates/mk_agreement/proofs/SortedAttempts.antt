@@ -1,5 +1,5 @@
 -- What each step does to the attempts.
-use Rattle.std.proofs.Common.{◌≡◌, ◌∙◌, ℕ, Bool, true, false, refl, arith, inl, ◌*◌, add-one, sym, ap, subst, List, [], ◌∷◌, ◌++◌, Option, Some, None, not, ◌||◌}
+use Rattle.std.proofs.Common.{◌≡◌, ◌∙◌, ℕ, Bool, true, false, refl, arith, inl, ◌*◌, add-one, sym, ap, subst, List, [], ◌∷◌, ◌++◌, Option, Some, None, not, ◌||◌, ◌⊎◌, inr}
 use Rattle.std.specs.Prelude.{option_map, find, is_some, is_none, ◌==◌, ◌-◌, nat_le, slice_get, if◌then◌else◌}
 use Rattle.std.proofs.lemmas.Bool.Decides.{nat_tests}
 use Rattle.mk_lists.specs.Among.{Among, Among-append_right}
@@ -25,7 +25,7 @@ use Rattle.mk_column.specs.declared.Step.{Step}
 use Rattle.mk_column.specs.declared.Step.TheVariants.{Begin, Unread, Read, Stamp, Validate, Take, Key, Rule, Again, Takeover, Pick as PickStep, Stop}
 use Rattle.mk_column.specs.ColumnState.{ColumnState, AttemptState, ClientState, Work, attempt_of, takeover_of, client_of, is_attempt, to_all, Learning}
 use Rattle.mk_column.specs.ColumnState.Work.{Idle, Fetching, Validating, Finishing}
-use Rattle.mk_column.specs.Conditions.{conditions}
+use Rattle.mk_column.specs.Conditions.{conditions, serves_from, heard_by}
 use Rattle.mk_column.specs.Answers.{attempt_answered, listens, is_led}
 use Rattle.mk_column.specs.Steps.{stepped, new_attempt, unread_attempt, next_id, epoch_of, stamped, with_txn, with_read, ruled, picked, proposing, taught, taken, replica_takes, answered, validated}
 use Rattle.mk_column.specs.Learnings.{txn_of, learning, by_rule, by_ruling, learned_in_step}
@@ -33,6 +33,9 @@ use Rattle.mk_column.specs.ColumnState.Way.{ByVotes}
 use Rattle.mk_msg.specs.declared.Body.{Body}
 use Rattle.mk_msg.specs.declared.Body.TheVariants.{Accept}
 use Rattle.mk_agreement.specs.Messages.{msg_of}
+use Rattle.mk_column.specs.Replicas.{serves}
+use Rattle.mk_merge.specs.declared.ReplicaView.{ReplicaView}
+use Rattle.mk_quorum.specs.Slots.{passes}
 use Rattle.mk_column.proofs.Frames.{AllTrue, on_some-keeps, either_way}
 use Rattle.mk_agreement.specs.Moments.{Moment}
 use Rattle.mk_agreement.specs.Moves.{AttemptMove, AttemptChange}
@@ -92,14 +95,15 @@ module _ (m : Moment) (step : Step) where
           (here (attempt_of m.column id) refl)
       by false e = AttemptStays (find-change_other (is_attempt id) (is_attempt other) g m.column.attempts (λ a t. apart_ids a.id id other e t) (keeps other))
 
-  attempts_pushed : (next : ColumnState) (new : AttemptState) → new.coord ≡ new_coord m.round.faults → new.txn ≡ None →
+  attempts_pushed : (next : ColumnState) (new : AttemptState) → new.coord ≡ new_coord m.round.faults → new.txn ≡ None → new.reads ≡ [] →
+      ((new.unread ≡ true) × (new.reading ≡ false)) ⊎ (serves new.epoch (slice_get m.round.views new.replica) ≡ true) →
       (other : TxnId) → AttemptMove m next other (attempt_of m.column other) (find (is_attempt other) (m.column.attempts ++ new ∷ []))
-  attempts_pushed next new coord none other = by (attempt_of m.column other) refl (is_attempt other new) refl
+  attempts_pushed next new coord none reads home other = by (attempt_of m.column other) refl (is_attempt other new) refl
     where
       by : (o : Option AttemptState) → attempt_of m.column other ≡ o → (b : Bool) → is_attempt other new ≡ b →
           AttemptMove m next other (attempt_of m.column other) (find (is_attempt other) (m.column.attempts ++ new ∷ []))
       by (Some a) e b t = AttemptStays (find-push_kept (is_attempt other) m.column.attempts new a e ∙ sym e)
-      by None e true t = AttemptBegins new e (find-pushed (is_attempt other) m.column.attempts new e t) (same_id-tells new.id other t) coord none
+      by None e true t = AttemptBegins new e (find-pushed (is_attempt other) m.column.attempts new e t) (same_id-tells new.id other t) coord none reads home
       by None e false t = AttemptStays (find-push_other (is_attempt other) m.column.attempts new t)
 
   stamping_sorted : (a : AttemptState) (clock : ℕ) (writes : List WriteItem) (c : ClientState) (s : Option StampType) → attempt_of m.column a.id ≡ Some a → a.reading ≡ true →
@@ -164,15 +168,21 @@ module _ (m : Moment) (step : Step) where
   answered_sorted answer (Finishing replica []) e = (λ x. AttemptStays refl)
   answered_sorted answer (Finishing replica (act ∷ acts)) e = (λ x. AttemptStays refl)
 
+-- a replica at which an attempt may begin serves its epoch
+home_serves : (epoch : ℕ) (view : Option ReplicaView) → passes (serves_from epoch) view ≡ true → serves (epoch_of view) view ≡ true
+home_serves epoch None e = absurd (cc e)
+home_serves epoch (Some v) e = grind (arith, nat_tests, e)
+
 module _ (m : Moment) where
   pub attempts_sorted : (step : Step) → AllTrue (conditions m.round m.column step) → AttemptsSorted m step (stepped m.round m.column step)
   attempts_sorted (Begin client replica) c =
       let step = Begin client replica in
       on_some-keeps (AttemptsSorted m step) _ (client_of m.column client) m.column
-      (λ d _. attempts_pushed m step _ (new_attempt m.round.faults (next_id d) replica (epoch_of (slice_get m.round.views replica))) refl refl) (λ x. AttemptStays refl)
+      (λ d _. attempts_pushed m step _ (new_attempt m.round.faults (next_id d) replica (epoch_of (slice_get m.round.views replica))) refl refl refl
+      (inr (home_serves (heard_by m.column client) (slice_get m.round.views replica) c.1.1.0))) (λ x. AttemptStays refl)
   attempts_sorted (Unread client) c =
       let step = Unread client in
-      on_some-keeps (AttemptsSorted m step) _ (client_of m.column client) m.column (λ d _. attempts_pushed m step _ (unread_attempt m.round.faults (next_id d)) refl refl) (λ x. AttemptStays refl)
+      on_some-keeps (AttemptsSorted m step) _ (client_of m.column client) m.column (λ d _. attempts_pushed m step _ (unread_attempt m.round.faults (next_id d)) refl refl refl (inl (refl, refl))) (λ x. AttemptStays refl)
   attempts_sorted (Read id key) c =
       let step = Read id key in
       on_some-keeps (AttemptsSorted m step) _ (attempt_of m.column id) m.column (λ a _. (λ x. AttemptStays refl)) (λ x. AttemptStays refl)

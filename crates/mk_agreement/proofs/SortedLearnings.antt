@@ -1,6 +1,6 @@
 -- What is learned in each step, with its reason; and all that a step does.
 use Rattle.std.proofs.Common.{◌≡◌, ◌∙◌, ℕ, true, refl, arith, inl, inr, sym, ap, subst, List, [], ◌∷◌, Option, Some, None}
-use Rattle.std.specs.Prelude.{option_map, find, is_none}
+use Rattle.std.specs.Prelude.{option_map, find, is_none, is_some, if◌then◌else◌}
 use Rattle.mk_quorum.specs.Slots.{passes}
 use Rattle.mk_lists.specs.Among.{Among, Among-append, Among-append_left}
 use Rattle.mk_lists.specs.Changed.{change}
@@ -117,6 +117,12 @@ module _ (m : Moment) where
       by (Some msg) e among = by_message_right number msg (message_among m.column.link number msg e) msg.body refl l among
   learned_right _ c l = λ among. absurd among
 
+begun_same : (now before : ℕ) (o : Option AttemptState) (a : AttemptState) → o ≡ Some a → (if is_some o then before else now) ≡ before
+begun_same now before o a e = ap (λ (x : Option AttemptState). if is_some x then before else now) e
+
+begun_new : (now before : ℕ) (o : Option AttemptState) → o ≡ None → (if is_some o then before else now) ≡ now
+begun_new now before o e = ap (λ (x : Option AttemptState). if is_some x then before else now) e
+
 -- every enabled step is sorted
 pub step_moves : (taught : Taught) (m : Moment) → Facts taught m → (step : Step) → blocked m.round m.column step ≡ None → Moves m (step_done step m)
 step_moves taught m h step able =
@@ -139,5 +145,7 @@ step_moves taught m h step able =
       ];
       work = s.work;
       rises = omega arith;
+      begun_stays = λ id a e. begun_same m.past.now (m.past.begun_in id) (attempt_of m.column id) a e;
+      begun_now = λ id b e f. begun_new m.past.now (m.past.begun_in id) (attempt_of m.column id) e;
       stays_ever = λ r epoch k. k;
     }

@@ -261,7 +261,7 @@ module _ (taught : Taught) (m : Moment) (h : Facts taught m) where
   steps_sorted (Read id key) c =
       let step = Read id key in
       on_some-keeps (StepSorted taught m h step) _ (attempt_of m.column id) m.column
-      (λ a _. untouched taught m h step _ refl refl (WorkFetches id a.replica key (idle_from m.column.work c.0) refl)) (stays taught m h step (idle_from m.column.work c.0))
+      (λ a e. untouched taught m h step _ refl refl (WorkFetches id a.replica key a e e (there (λ (x : AttemptState). x.reading) (attempt_of m.column id) a e c.1.0) refl (idle_from m.column.work c.0) refl)) (stays taught m h step (idle_from m.column.work c.0))
   steps_sorted (Stamp id clock writes) c =
       let step = Stamp id clock writes in
       on_some-keeps (StepSorted taught m h step) _ (attempt_of m.column id) m.column

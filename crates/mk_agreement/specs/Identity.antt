@@ -1,7 +1,7 @@
 -- Clients, attempts and stamps: each attempt is one of its client's, and a stamp names its attempt.
 use Rattle.std.specs.Prelude.{◌≡◌, ◌<◌, ◌≤◌, ◌+◌, ℕ, true, List, Option, Some, find}
 use Rattle.mk_txn.specs.declared.TxnId.{TxnId}
-use Rattle.mk_txn.specs.Transactions.{Transaction}
+use Rattle.mk_txn.specs.Transactions.{Transaction, is_above_reads}
 use Rattle.mk_column.specs.ColumnState.{ClientState, AttemptState, attempt_of, is_client, is_attempt}
 use Rattle.mk_agreement.specs.Laws.{AlwaysHolds}
 
@@ -21,13 +21,14 @@ pub record IsClients (clients : List ClientState) (id : TxnId) (a : AttemptState
   pub begun : id.seq < client.next_seq
   pub last_reads : a.reading ≡ true → client.next_seq ≡ id.seq + 1
 
--- the stamp is of the attempt's client, above zero, and not above the client's last time
+-- the stamp is of the attempt's client, above zero and all that was read, and not above the client's last time
 pub record IsStampedBy (clients : List ClientState) (id : TxnId) (txn : Transaction) : Type 0 where
   pub client : ClientState
   pub found : client_in clients id.client ≡ Some client
   pub of_client : txn.stamp.client ≡ id.client
   pub from_one : 1 ≤ txn.stamp.time
   pub not_above : txn.stamp.time ≤ client.last_time
+  pub above_reads : is_above_reads txn.stamp txn.reads ≡ true
 
 -- what holds of clients, attempts and stamps
 pub record Identity (clients : List ClientState) (list : List AttemptState) : Type 0 where

@@ -18,7 +18,7 @@ use Rattle.mk_valid.specs.Validations.{ValidationState, next_act, after_answer, 
 use Rattle.mk_column.specs.ColumnState.{AttemptState, Work, attempt_of}
 use Rattle.mk_column.specs.ColumnState.Work.{Idle, Fetching, Validating, Finishing}
 use Rattle.mk_column.specs.Replicas.{serves, finishing}
-use Rattle.mk_column.specs.Steps.{epoch_of}
+use Rattle.mk_column.specs.Steps.{epoch_of, with_read}
 use Rattle.mk_agreement.specs.Moments.{Moment, PastAct, PastEntry}
 use Rattle.mk_agreement.specs.Moves.{undated, past_opened}
 
@@ -44,6 +44,7 @@ act_now m r act answer = act_at m.past.now r (epoch_of (slice_get m.round.views 
 pub data ActMove (m next : Moment) : Type 0 where
   NoAct : next.past.acts ≡ m.past.acts → m.column.work ≡ Idle → ActMove m next
   ActFetched : (id : TxnId) (r key : ℕ) (answer : Answer) → m.column.work ≡ Fetching id r key →
+      ((a : AttemptState) → attempt_of m.column id ≡ Some a → attempt_of next.column id ≡ Some (with_read key answer a)) →
       next.past.acts ≡ m.past.acts ++ act_now m r (key, Get) answer ∷ [] → next.column.work ≡ Idle → ActMove m next
   ActChecked : (txn : Transaction) (r epoch : ℕ) (state : ValidationState) (act : KeyAct) (answer : Answer) → next.past.now ≡ m.past.now → m.column.work ≡ Validating txn r epoch state → next_act state ≡ Some act →
       next.past.acts ≡ m.past.acts ++ act_now m r act answer ∷ [] → next.column.work ≡ Validating txn r epoch (after_answer state answer) → ActMove m next

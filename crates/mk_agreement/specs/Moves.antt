@@ -1,5 +1,5 @@
 -- What an event does: to each attempt, takeover and entry, to the messages, the key calls under way, and what is learned.
-use Rattle.std.specs.Prelude.{◌≡◌, ◌⊎◌, ◌<◌, ◌≤◌, ℕ, true, false, List, Option, Some, None, is_some, option_map, slice_get, ◌∷◌}
+use Rattle.std.specs.Prelude.{◌≡◌, ◌⊎◌, ◌<◌, ◌≤◌, ℕ, true, false, List, Option, Some, None, is_some, option_map, slice_get, ◌∷◌, []}
 use Rattle.mk_lists.specs.Among.{Among}
 use Rattle.mk_txn.specs.declared.TxnId.{TxnId}
 use Rattle.mk_txn.specs.declared.Stamp.{Stamp}
@@ -58,7 +58,8 @@ pub data AttemptChange (m : Moment) (next : ColumnState) (id : TxnId) (a b : Att
 -- an attempt stays, is begun, or changes
 pub data AttemptMove (m : Moment) (next : ColumnState) (id : TxnId) (old new : Option AttemptState) : Type 0 where
   AttemptStays : new ≡ old → AttemptMove m next id old new
-  AttemptBegins : (a : AttemptState) → old ≡ None → new ≡ Some a → a.id ≡ id → a.coord ≡ new_coord m.round.faults → a.txn ≡ None → AttemptMove m next id old new
+  AttemptBegins : (a : AttemptState) → old ≡ None → new ≡ Some a → a.id ≡ id → a.coord ≡ new_coord m.round.faults → a.txn ≡ None → a.reads ≡ [] →
+      ((a.unread ≡ true) × (a.reading ≡ false)) ⊎ (serves a.epoch (slice_get m.round.views a.replica) ≡ true) → AttemptMove m next id old new
   AttemptChanges : (a b : AttemptState) → old ≡ Some a → new ≡ Some b → AttemptChange m next id a b → AttemptMove m next id old new
 
 -- ---- takeovers
@@ -191,7 +192,7 @@ pub data NewLearning (m next : Moment) (l : Learning) : Type 0 where
 -- the key calls under way are none, or begin, or go on
 pub data WorkMove (m next : Moment) (old new : Work) : Type 0 where
   WorkRests : new ≡ Idle → WorkMove m next old new
-  WorkFetches : (id : TxnId) (replica key : ℕ) → old ≡ Idle → new ≡ Fetching id replica key → WorkMove m next old new
+  WorkFetches : (id : TxnId) (replica key : ℕ) (a : AttemptState) → attempt_of m.column id ≡ Some a → attempt_of next.column id ≡ Some a → a.reading ≡ true → a.replica ≡ replica → old ≡ Idle → new ≡ Fetching id replica key → WorkMove m next old new
   WorkValidates : (txn : Transaction) (r epoch : ℕ) (served : ServesAttempt m r txn.id txn) → served.attempt.epoch ≡ epoch → next.round ≡ m.round → r < members m.round.faults → old ≡ Idle →
       m.past.entries r txn.id ≡ None → next.past.entries r txn.id ≡ Some (past_opened txn) →
       new ≡ Validating txn r epoch (validation_of txn) → WorkMove m next old new
@@ -223,4 +224,6 @@ pub record Moves (m next : Moment) : Type 0 where
   pub learnings : (l : Learning) → Among l next.column.learned → Among l m.column.learned ⊎ NewLearning m next l
   pub work : WorkMove m next m.column.work next.column.work
   pub rises : m.past.now ≤ next.past.now
+  pub begun_stays : (id : TxnId) (a : AttemptState) → attempt_of m.column id ≡ Some a → next.past.begun_in id ≡ m.past.begun_in id
+  pub begun_now : (id : TxnId) (b : AttemptState) → attempt_of m.column id ≡ None → attempt_of next.column id ≡ Some b → next.past.begun_in id ≡ next.past.now
   pub stays_ever : (r epoch : ℕ) → m.past.ever_served r epoch ≡ true → next.past.ever_served r epoch ≡ true

@@ -3,6 +3,7 @@
 
 ghost use Rattle.mk_agreement.specs.Laws.{MovedIsLater, RecordsKept, RecordIsPast, CountsBacked, EventsMove, ColumnsGrow, FactsHold, EntriesChangeWhereServed, RecordsMatch, MessagesAreOf, AcceptIsProposal, OneProposal, VotedTrue, AcceptedTrue, ToldTrue, MovedTrue, AcceptedWasProposed, FinalWasSent, OwnGrounds, FastGrounds, TakeoverGrounds, ViewsAgree, FastForbids, OneDecision, CommitSupport, LearnedBacked, BackingStays};
 ghost use Rattle.mk_agreement.specs.ActLaws.{ActsHold, ActsHaveOrigin, ChecksOfOk, RefusalOfAbort, ReleasesOfOk, StampReleased, CommitsOfFinal, ChecksOfStamp, NoCheckAfterCommit};
+ghost use Rattle.mk_agreement.specs.Reading.{ReadsWereGot};
 ghost use Rattle.mk_agreement.specs.Identity.{IdsOnce, StampsName};
 ghost use Rattle.mk_agreement.specs.FirstEpoch.{OneDecisionInFirstEpoch, LearningsAreDecided, LearningsAgree};
 
@@ -21,6 +22,7 @@ pub fn events_are_sorted()
 pub fn stamps_name_attempts()
     ensures ids_once { IdsOnce }
     ensures stamps_name { StampsName }
+    ensures reads_were_got { ReadsWereGot }
 {}
 
 /// What each message says for ever.
