@@ -11,8 +11,9 @@ use Rattle.mk_msg.specs.declared.Body.TheVariants.{Voted}
 use Rattle.mk_quorum.specs.Slots.{slot, passes, count_slots}
 use Rattle.mk_quorum.specs.Sizes.{members, fast_of}
 use Rattle.mk_coord.specs.Rulings.{is_abort_vote}
-use Rattle.mk_agreement.specs.Messages.{Sent, Proposed, VotesIn}
-use Rattle.mk_agreement.specs.Decided.{IsChosen}
+use Rattle.mk_column.specs.Sending.{Sent, Proposed}
+use Rattle.mk_agreement.specs.Messages.{VotesIn}
+use Rattle.mk_column.specs.Deciding.{IsChosen}
 use Rattle.mk_agreement.proofs.Orderly.{IsOrderly}
 use Rattle.mk_agreement.proofs.Lookups.{passes-some}
 use Rattle.mk_agreement.proofs.Choices.{chosen_kept, fast_kept, FastCounts, share, ok_vote-is, abort_vote-is}

@@ -26,8 +26,9 @@ use Rattle.mk_coord.specs.declared.Ruling.TheVariants.{Fast, Propose, Short}
 use Rattle.mk_coord.specs.Rulings.{by_votes, is_abort_vote, any_vote, first_refusal}
 use Rattle.mk_takeover.specs.declared.Pick.TheVariants.{Propose as PickPropose, Short as PickShort, Unclear}
 use Rattle.mk_takeover.specs.Picks.{by_promises, by_accepted, by_counts, is_promise, is_ok_promise, is_other_promise, accepted_in}
-use Rattle.mk_agreement.specs.Messages.{Sent, Proposed, VotesIn, RepliesIn, taking_over, msg_of}
-use Rattle.mk_agreement.specs.Decided.{IsChosen, has_accepted, is_accepted_body}
+use Rattle.mk_column.specs.Sending.{Sent, Proposed, msg_of}
+use Rattle.mk_agreement.specs.Messages.{VotesIn, RepliesIn, taking_over}
+use Rattle.mk_column.specs.Deciding.{IsChosen, has_accepted, is_accepted_body}
 use Rattle.mk_agreement.proofs.Orderly.{IsOrderly}
 use Rattle.mk_agreement.proofs.Lookups.{same_id-tells, passes-some, and_left, and_right}
 use Rattle.mk_agreement.proofs.Highest.{highest-above, highest-member}

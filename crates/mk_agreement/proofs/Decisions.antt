@@ -21,8 +21,9 @@ use Rattle.mk_coord.specs.Rulings.{CoordState, by_votes, by_accepts, ruling, unl
 use Rattle.mk_takeover.specs.declared.Pick.{Pick}
 use Rattle.mk_takeover.specs.declared.Pick.TheVariants.{Known, Learned as PickLearned, Propose as PickPropose, Short as PickShort, Unaccepted as PickUnaccepted, Unclear}
 use Rattle.mk_takeover.specs.Picks.{TakeoverState, by_promises, by_accepted, pick, accepted_in, is_promise, is_ok_promise, is_other_promise, by_accepts as pick_by_accepts, unless_proposed as pick_unless_proposed, unless_learned as pick_unless_learned}
-use Rattle.mk_agreement.specs.Messages.{Sent, msg_of, taking_over}
-use Rattle.mk_agreement.specs.Decided.{has_accepted, is_accepted_body}
+use Rattle.mk_column.specs.Sending.{Sent, msg_of}
+use Rattle.mk_agreement.specs.Messages.{taking_over}
+use Rattle.mk_column.specs.Deciding.{has_accepted, is_accepted_body}
 use Rattle.mk_quorum.proofs.Counting.{count_below-weaker}
 use Rattle.mk_agreement.proofs.Lookups.{same_id-itself}
 

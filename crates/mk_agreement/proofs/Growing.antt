@@ -18,7 +18,7 @@ use Rattle.mk_column.specs.ColumnState.Work.{Validating}
 use Rattle.mk_column.specs.Answers.{coord_answered, state_answered, moved_outcome}
 use Rattle.mk_column.proofs.Frames.{either_way}
 use Rattle.mk_agreement.specs.Moments.{Moment, PastEntry, Taught}
-use Rattle.mk_agreement.specs.Messages.{msg_of}
+use Rattle.mk_column.specs.Sending.{msg_of}
 use Rattle.mk_agreement.specs.Moves.{Moves, AttemptMove, AttemptChange, TakeoverMove, TakeoverChange, EntryMove, WorkMove, Newborn, past_opened}
 use Rattle.mk_agreement.specs.Moves.AttemptMove.{AttemptStays, AttemptBegins, AttemptChanges}
 use Rattle.mk_agreement.specs.Moves.AttemptChange.{EndsReading, Reads, Stamps, RulesFast, RulesLearned, Proposes, Hears, Stops}

@@ -25,8 +25,9 @@ use Rattle.mk_column.specs.Learnings.{learning}
 use Rattle.mk_column.specs.Steps.{taught as having_learned, takeover_proposing}
 use Rattle.mk_column.proofs.Frames.{either_way}
 use Rattle.mk_agreement.specs.Moments.{Moment, Taught, StaysTaught}
-use Rattle.mk_agreement.specs.Messages.{Sent, Proposed, VotesIn, RepliesIn, taking_over, msg_of}
-use Rattle.mk_agreement.specs.Decided.{IsDecided}
+use Rattle.mk_column.specs.Sending.{Sent, Proposed, msg_of}
+use Rattle.mk_agreement.specs.Messages.{VotesIn, RepliesIn, taking_over}
+use Rattle.mk_column.specs.Deciding.{IsDecided}
 use Rattle.mk_agreement.specs.Moves.{Moves, AttemptMove, AttemptChange, TakeoverMove, TakeoverChange, HasProposed}
 use Rattle.mk_agreement.specs.Moves.AttemptMove.{AttemptStays, AttemptBegins, AttemptChanges}
 use Rattle.mk_agreement.specs.Moves.AttemptChange.{EndsReading, Reads, Stamps, RulesFast, RulesLearned, Proposes, Hears, Stops}

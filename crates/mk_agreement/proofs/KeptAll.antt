@@ -19,7 +19,7 @@ use Rattle.mk_column.specs.Replicas.{told_of, serves}
 use Rattle.mk_column.specs.Learnings.{learning}
 use Rattle.mk_column.specs.Steps.{taught as having_learned}
 use Rattle.mk_agreement.specs.Moments.{Moment, PastEntry, Taught, StaysTaught}
-use Rattle.mk_agreement.specs.Messages.{Sent, Proposed, msg_of}
+use Rattle.mk_column.specs.Sending.{Sent, Proposed, msg_of}
 use Rattle.mk_agreement.specs.Moves.{Moves, EntryMove, WorkMove, Newborn, NewLearning, ServesAttempt, IsMatched, past_opened, past_or_opened, undated, entry_of_past}
 use Rattle.mk_agreement.specs.Moves.EntryMove.{EntryStays, EntryOpens, EntryVotes, EntryPromises, EntryAccepts, EntryFinishes}
 use Rattle.mk_agreement.specs.Moves.WorkMove.{WorkRests, WorkFetches, WorkValidates, WorkGoesOn, WorkEnds, WorkFinishes}

@@ -14,7 +14,8 @@ use Rattle.mk_coord.specs.declared.Ruling.TheVariants.{Propose}
 use Rattle.mk_coord.specs.Rulings.{by_votes}
 use Rattle.mk_takeover.specs.declared.Pick.TheVariants.{Propose as PickPropose}
 use Rattle.mk_takeover.specs.Picks.{by_promises}
-use Rattle.mk_agreement.specs.Messages.{Sent, Proposed, VotesIn, RepliesIn, taking_over}
+use Rattle.mk_column.specs.Sending.{Sent, Proposed}
+use Rattle.mk_agreement.specs.Messages.{VotesIn, RepliesIn, taking_over}
 
 pub record IsOrderly (f : ℕ) (link : List Msg) : Type 0 where
   pub one_vote : (id : TxnId) (r : ℕ) (a b : Vote) → Sent link id r 0 (Voted a) → Sent link id r 0 (Voted b) → a ≡ b

@@ -32,7 +32,7 @@ use Rattle.mk_column.specs.Learnings.{txn_of, learning, by_rule, by_ruling, lear
 use Rattle.mk_column.specs.ColumnState.Way.{ByVotes}
 use Rattle.mk_msg.specs.declared.Body.{Body}
 use Rattle.mk_msg.specs.declared.Body.TheVariants.{Accept}
-use Rattle.mk_agreement.specs.Messages.{msg_of}
+use Rattle.mk_column.specs.Sending.{msg_of}
 use Rattle.mk_column.specs.Replicas.{serves}
 use Rattle.mk_merge.specs.declared.ReplicaView.{ReplicaView}
 use Rattle.mk_quorum.specs.Slots.{passes}

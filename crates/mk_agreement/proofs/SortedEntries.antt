@@ -25,7 +25,7 @@ use Rattle.mk_column.specs.Replicas.{Reaction, reply, told_of, reaction_by_view,
 use Rattle.mk_column.specs.Learnings.{learned_in_step, txn_of}
 use Rattle.mk_column.specs.Steps.{replica_takes, validated, voted_msg}
 use Rattle.mk_agreement.specs.Moments.{Moment, PastEntry, Taught, remembered, remembered_from, past_after}
-use Rattle.mk_agreement.specs.Messages.{Sent, msg_of}
+use Rattle.mk_column.specs.Sending.{Sent, msg_of}
 use Rattle.mk_agreement.specs.Moves.{undated, EntryMove, Newborn, WorkMove, IsStampedIn, ServesAttempt, IsMatched, past_opened, past_or_opened, entry_of_past}
 use Rattle.mk_agreement.specs.Moves.EntryMove.{EntryStays, EntryOpens, EntryVotes, EntryPromises, EntryAccepts, EntryFinishes}
 use Rattle.mk_agreement.specs.Moves.Newborn.{VoteSent, AcceptedSent, FinalToldSent, PromiseSent, MovedSent}

@@ -40,7 +40,7 @@ use Rattle.mk_column.specs.Learnings.{learning, txn_of, by_rule, by_ruling, lear
 use Rattle.mk_column.specs.Steps.{stepped, stamped, ruled, picked, proposing, taught as having_learned, takeover_proposing, taken, replica_takes, answered, validated, taken_over}
 use Rattle.mk_column.proofs.Frames.{AllTrue, on_some-keeps, either_way}
 use Rattle.mk_agreement.specs.Moments.{Moment, Taught}
-use Rattle.mk_agreement.specs.Messages.{msg_of}
+use Rattle.mk_column.specs.Sending.{msg_of}
 use Rattle.mk_agreement.specs.Moves.{Newborn, WorkMove, IsStampedIn}
 use Rattle.mk_agreement.specs.Moves.Newborn.{ValidateSent, AskSent, ProposalSent, FastSent, LearnedSent, KnownSent, PickSent}
 use Rattle.mk_agreement.specs.Moves.WorkMove.{WorkRests, WorkFetches, WorkGoesOn, WorkFinishes}

@@ -13,7 +13,7 @@ use Rattle.mk_txn.proofs.ClashFacts.{member-from_list_any}
 use Rattle.mk_cell.specs.declared.Answer.{Answer}
 use Rattle.mk_msg.specs.declared.Msg.{Msg}
 use Rattle.mk_msg.specs.declared.Body.{Body}
-use Rattle.mk_agreement.specs.Messages.{msg_of}
+use Rattle.mk_column.specs.Sending.{msg_of}
 use Rattle.mk_msg.specs.declared.Body.TheVariants.{Accept, Accepted as AcceptedBody, Told as ToldBody, Moved as MovedBody}
 use Rattle.mk_msg.specs.Links.{message, goes_to_replica}
 use Rattle.mk_coord.specs.declared.Ruling.{Ruling}

@@ -19,8 +19,9 @@ use Rattle.mk_takeover.specs.declared.Pick.TheVariants.{Propose as PickPropose}
 use Rattle.mk_takeover.specs.Picks.{by_promises}
 use Rattle.mk_column.specs.ColumnState.{AttemptState, TakeoverOf, attempt_of}
 use Rattle.mk_agreement.specs.Moments.{Moment, PastEntry, Taught, StaysTaught, past_vote}
-use Rattle.mk_agreement.specs.Messages.{Sent, Proposed, VotesIn, RepliesIn, taking_over, msg_of}
-use Rattle.mk_agreement.specs.Decided.{IsDecided, IsChosen, has_accepted}
+use Rattle.mk_column.specs.Sending.{Sent, Proposed, msg_of}
+use Rattle.mk_agreement.specs.Messages.{VotesIn, RepliesIn, taking_over}
+use Rattle.mk_column.specs.Deciding.{IsDecided, IsChosen, has_accepted}
 use Rattle.mk_agreement.specs.Moves.{HasProposed, IsStampedIn}
 use Rattle.mk_agreement.specs.Facts.{Grows, IsBacked, IsSupported, IsTaught, IsPromise, ToldFacts, AcceptFacts, Says, AttemptFacts, TakeoverFacts, EntryFacts, FastFacts, is_ok_by}
 use Rattle.mk_agreement.proofs.Choices.{accept_sent}

@@ -9,8 +9,8 @@ use Rattle.mk_msg.specs.declared.Body.TheVariants.{Voted, Accepted as AcceptedBo
 use Rattle.mk_column.specs.ColumnState.{AttemptState, attempt_of, entries_at}
 use Rattle.mk_column.specs.Replicas.{serves}
 use Rattle.mk_agreement.specs.Moments.{Moment, PastEntry, Taught, after_event, moment_through}
-use Rattle.mk_agreement.specs.Messages.{msg_of}
-use Rattle.mk_agreement.specs.Decided.{IsDecided}
+use Rattle.mk_column.specs.Sending.{msg_of}
+use Rattle.mk_column.specs.Deciding.{IsDecided}
 use Rattle.mk_agreement.specs.Moves.{EntryMove, ServesAttempt, HasProposed, IsMatched, entry_of_past}
 use Rattle.mk_agreement.specs.Moves.EntryMove.{EntryStays, EntryOpens, EntryVotes, EntryPromises, EntryAccepts, EntryFinishes}
 use Rattle.mk_agreement.specs.Facts.{Facts, FastFacts, IsBacked}

@@ -19,8 +19,9 @@ use Rattle.mk_takeover.specs.declared.Pick.TheVariants.{Propose as PickPropose}
 use Rattle.mk_takeover.specs.Picks.{by_promises, is_ok_promise}
 use Rattle.mk_column.specs.ColumnState.{AttemptState, TakeoverOf}
 use Rattle.mk_agreement.specs.Moments.{Moment, PastEntry, Taught, past_vote}
-use Rattle.mk_agreement.specs.Messages.{Sent, Proposed, VotesIn, RepliesIn, taking_over, msg_of}
-use Rattle.mk_agreement.specs.Decided.{IsDecided}
+use Rattle.mk_column.specs.Sending.{Sent, Proposed, msg_of}
+use Rattle.mk_agreement.specs.Messages.{VotesIn, RepliesIn, taking_over}
+use Rattle.mk_column.specs.Deciding.{IsDecided}
 use Rattle.mk_agreement.specs.Moves.{HasProposed}
 use Rattle.mk_agreement.specs.Facts.{Facts, ToldFacts, IsSupported, is_ok_by}
 use Rattle.mk_agreement.proofs.Lookups.{some_same, passes-some}

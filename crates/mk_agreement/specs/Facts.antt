@@ -27,9 +27,10 @@ use Rattle.mk_column.specs.ColumnState.Way.{ByVotes}
 use Rattle.mk_column.specs.Replicas.{serves, is_serving}
 use Rattle.mk_column.specs.Answers.{moved_outcome, outcome_after}
 use Rattle.mk_column.specs.Learnings.{learning}
-use Rattle.mk_agreement.specs.Decided.{IsDecided}
+use Rattle.mk_column.specs.Deciding.{IsDecided}
 use Rattle.mk_agreement.specs.Moments.{Moment, PastEntry, Taught, past_vote}
-use Rattle.mk_agreement.specs.Messages.{Sent, Proposed, VotesIn, RepliesIn, taking_over}
+use Rattle.mk_column.specs.Sending.{Sent, Proposed}
+use Rattle.mk_agreement.specs.Messages.{VotesIn, RepliesIn, taking_over}
 use Rattle.mk_agreement.specs.Moves.{HasProposed, IsStampedIn, ServesAttempt, IsMatched, past_opened}
 
 -- ---- what outcomes rest on

@@ -10,7 +10,7 @@ use Rattle.mk_column.specs.ColumnState.Work.{Idle}
 use Rattle.mk_column.specs.Conditions.{blocked}
 use Rattle.mk_agreement.specs.Moments.{Moment, Event, Taught, after_event, moment_through, first_moment}
 use Rattle.mk_agreement.specs.Moments.Event.{NewRound, Doing}
-use Rattle.mk_agreement.specs.Decided.{IsDecided}
+use Rattle.mk_column.specs.Deciding.{IsDecided}
 
 -- nothing is ever taught
 abbrev pub nothing_taught : Taught

@@ -24,8 +24,9 @@ use Rattle.mk_column.specs.Replicas.{serves}
 use Rattle.mk_column.specs.Answers.{moved_outcome}
 use Rattle.mk_column.specs.Learnings.{learning}
 use Rattle.mk_agreement.specs.Moments.{Moment, PastEntry, Taught, StaysTaught, IsReached, Event, CanHappen, EachHappens, after_event, moment_through}
-use Rattle.mk_agreement.specs.Messages.{Sent, Proposed, VotesIn, RepliesIn, taking_over}
-use Rattle.mk_agreement.specs.Decided.{IsDecided, IsChosen}
+use Rattle.mk_column.specs.Sending.{Sent, Proposed}
+use Rattle.mk_agreement.specs.Messages.{VotesIn, RepliesIn, taking_over}
+use Rattle.mk_column.specs.Deciding.{IsDecided, IsChosen}
 use Rattle.mk_agreement.specs.Moves.{Moves, HasProposed, IsStampedIn, entry_of_past}
 use Rattle.mk_agreement.specs.Facts.{Facts, Grows, IsBacked, IsSupported, IsTaught, ToldFacts, AcceptFacts}
 

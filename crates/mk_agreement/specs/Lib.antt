@@ -1,7 +1,6 @@
 -- One column is safe: its events over all rounds, what is remembered of them, and the laws.
 pub mod Moments
 pub mod Messages
-pub mod Decided
 pub mod Moves
 pub mod Facts
 pub mod KeyActs

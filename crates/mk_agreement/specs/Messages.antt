@@ -11,18 +11,7 @@ use Rattle.mk_msg.specs.declared.Body.{Body}
 use Rattle.mk_msg.specs.declared.Body.TheVariants.{Voted, Accept, Told as ToldBody}
 use Rattle.mk_quorum.specs.Slots.{slot}
 use Rattle.mk_takeover.specs.Picks.{TakeoverState}
-
--- a message
-abbrev pub msg_of : ℕ → TxnId → ℕ → ℕ → Body → Msg
-msg_of epoch id replica view body = record { epoch = epoch; id = id; replica = replica; view = view; body = body }
-
--- a message of the attempt, to or from this replica, in this view, was sent
-abbrev pub Sent : List Msg → TxnId → ℕ → ℕ → Body → Type 0
-Sent link id replica view body = (epoch : ℕ) × Among (msg_of epoch id replica view body) link
-
--- an outcome was proposed in a view
-abbrev pub Proposed : List Msg → TxnId → ℕ → Outcome → Type 0
-Proposed link id view outcome = (replica : ℕ) × Sent link id replica view (Accept outcome)
+use Rattle.mk_column.specs.Sending.{Sent}
 
 -- each of these votes was sent by its replica
 abbrev pub VotesIn : List Msg → TxnId → List (Option Vote) → Type 0

@@ -35,7 +35,7 @@ use Rattle.mk_column.specs.Learnings.{learning}
 use Rattle.mk_column.specs.Steps.{with_txn, with_read, proposing, taught as having_learned, closing, takeover_proposing}
 use Rattle.mk_column.specs.Logs.{not_reading}
 use Rattle.mk_agreement.specs.Moments.{Moment, PastEntry}
-use Rattle.mk_agreement.specs.Messages.{Sent, Proposed}
+use Rattle.mk_column.specs.Sending.{Sent, Proposed}
 
 -- ---- attempts
 

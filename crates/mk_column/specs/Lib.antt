@@ -6,3 +6,5 @@ pub mod Learnings
 pub mod Conditions
 pub mod Steps
 pub mod Logs
+pub mod Sending
+pub mod Deciding

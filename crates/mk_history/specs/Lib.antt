@@ -7,6 +7,5 @@ pub mod Legality
 pub mod Learning
 pub mod Leaving
 pub mod Naming
-pub mod Deciding
 pub mod Teaching
 pub mod Safety
