@@ -1,2 +1,4 @@
 pub mod KnownLaws
 mod MergeRows
+pub mod ListLaws
+pub mod KeptLaws
