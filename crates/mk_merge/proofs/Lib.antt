@@ -2,3 +2,4 @@ pub mod KnownLaws
 mod MergeRows
 pub mod ListLaws
 pub mod KeptLaws
+pub mod LeftLaws

@@ -1,5 +1,6 @@
 -- Bases of epochs.
 pub mod Bases
 pub mod Rebuilding
+pub mod Lefts
 pub mod Promises
 pub mod Merging

@@ -3,6 +3,7 @@
 
 mod handing;
 mod listing;
+mod rebuilding;
 
 use mk_record::Entry;
 use mk_trim::Kept;
