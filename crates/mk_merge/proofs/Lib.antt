@@ -3,3 +3,5 @@ mod MergeRows
 pub mod ListLaws
 pub mod KeptLaws
 pub mod LeftLaws
+pub mod EveryKey
+pub mod CellsMade

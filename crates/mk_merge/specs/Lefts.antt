@@ -3,6 +3,7 @@ use Rattle.std.specs.Prelude.{◌≡◌, ℕ, ◌<◌, List, [], ◌∷◌, leng
 use Rattle.mk_txn.specs.declared.Stamp.{Stamp}
 use Rattle.mk_txn.specs.declared.Value.{Value}
 use Rattle.mk_txn.specs.declared.ReadItem.{ReadItem}
+use Rattle.mk_txn.specs.declared.WriteItem.{WriteItem}
 use Rattle.mk_txn.specs.Stamps.{is_before, later_stamp, zero_stamp}
 use Rattle.mk_txn.specs.Transactions.{Transaction}
 use Rattle.mk_txn.specs.LatestWrites.{VersionedValue, first_version, after_writes}
@@ -49,6 +50,23 @@ left_by key left (txn ∷ txns) = left_by key (after_commit key txn left) txns
 -- the cell of a key of which this is left
 abbrev pub cell_left : LeftState → CellState
 cell_left left = settled_cell left.latest.value left.latest.version left.rts
+
+-- of these keys each has the writes of one stamp besides
+pub record AreWritten (stamp : Stamp) (items : List WriteItem) (old new : List LeftState) : Type 0 where
+  pub all : length new ≡ length old
+  pub latest : (key : ℕ) (d : LeftState) → key < length old → (slice_index_or new key d).latest ≡ after_writes key stamp (slice_index_or old key d).latest items
+  pub rts : (key : ℕ) (d : LeftState) → key < length old → (slice_index_or new key d).rts ≡ (slice_index_or old key d).rts
+
+-- of these keys each has the reads of one stamp besides
+pub record AreRead (stamp : Stamp) (items : List ReadItem) (old new : List LeftState) : Type 0 where
+  pub all : length new ≡ length old
+  pub latest : (key : ℕ) (d : LeftState) → key < length old → (slice_index_or new key d).latest ≡ (slice_index_or old key d).latest
+  pub rts : (key : ℕ) (d : LeftState) → key < length old → (slice_index_or new key d).rts ≡ after_reads key stamp (slice_index_or old key d).rts items
+
+-- what these commits leave at the keys below this number, in order of key
+pub record AreLeft (txns : List Transaction) (keys : ℕ) (lefts : List LeftState) : Type 0 where
+  pub all : length lefts ≡ keys
+  pub each : (key : ℕ) (d : LeftState) → key < keys → slice_index_or lefts key d ≡ left_by key nothing_left txns
 
 -- the rebuilt cells of the keys below this number, in order of key
 pub record AreRebuilt (base : BaseState) (keys : ℕ) (cells : List CellView) : Type 0 where

@@ -2,9 +2,11 @@
 #![tactic(auto)]
 
 mod handing;
+mod keeping;
 mod listing;
 mod rebuilding;
 
+pub use keeping::Keeping;
 use mk_record::Entry;
 use mk_trim::Kept;
 use mk_txn::{Marks, NoMemory, Outcome, Txn};

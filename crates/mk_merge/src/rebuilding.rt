@@ -1,11 +1,11 @@
 //! What a base's commits leave at keys.
-ghost use Rattle.std.specs.Prelude.{◌≡◌, ℕ, ◌<◌, not, length, slice_index_or, IfOk};
+ghost use Rattle.std.specs.Prelude.{◌≡◌, not, replicate, IfOk};
 ghost use Rattle.std.specs.List.{list_all};
 ghost use Rattle.mk_txn.specs.Stamps.{is_before};
 ghost use Rattle.mk_txn.specs.LatestWrites.{after_writes};
 ghost use Rattle.mk_merge.specs.Bases.{commits_in};
 ghost use Rattle.mk_merge.specs.Rebuilding.{rebuilt, fits_base};
-ghost use Rattle.mk_merge.specs.Lefts.{LeftState, nothing_left, after_reads, after_commit, left_by, AreRebuilt};
+ghost use Rattle.mk_merge.specs.Lefts.{nothing_left, after_reads, after_commit, left_by, AreWritten, AreRead, AreLeft, AreRebuilt};
 
 use crate::{Base, Fated};
 use mk_cell::Cell;
@@ -108,6 +108,57 @@ fn left_at(list: &[Fated], key: u32) -> Left
     left
 }
 
+// Nothing left at each key below this number.
+fn nothing_at(alloc: Global, keys: u32) -> Result<Vec<Left>, NoMemory>
+    ensures { IfOk result (λ lefts. lefts.items ≡ replicate keys nothing_left) }
+{
+    let mut lefts = Vec::new(alloc);
+    for _ in 0..keys {
+        lefts.push(Left::nothing())?;
+    }
+    Ok(lefts)
+}
+
+// The writes of one more commit, at every key.
+fn write_everywhere(lefts: &mut [Left], txn: &Txn)
+    ensures { AreWritten txn.now.stamp txn.now.writes lefts.old lefts.new }
+{
+    let stamp = txn.stamp();
+    for item in txn.writes() {
+        let key = item.key as usize;
+        if key < lefts.len() {
+            lefts[key].write(stamp, item.value);
+        }
+    }
+}
+
+// The reads of one more commit, at every key.
+fn read_everywhere(lefts: &mut [Left], txn: &Txn)
+    ensures { AreRead txn.now.stamp txn.now.reads lefts.old lefts.new }
+{
+    let stamp = txn.stamp();
+    for item in txn.reads() {
+        let key = item.key as usize;
+        if key < lefts.len() {
+            lefts[key].read(stamp);
+        }
+    }
+}
+
+// What the commits of the list leave at each key below `keys`.
+fn lefts_at(alloc: Global, list: &[Fated], keys: u32) -> Result<Vec<Left>, NoMemory>
+    ensures { IfOk result (λ lefts. AreLeft (commits_in list.now) keys lefts.items) }
+{
+    let mut lefts = nothing_at(alloc, keys)?;
+    for fated in list {
+        if fated.outcome == Outcome::Commit {
+            write_everywhere(&mut lefts, &fated.txn);
+            read_everywhere(&mut lefts, &fated.txn);
+        }
+    }
+    Ok(lefts)
+}
+
 impl Base {
     // The stamp of the key's last write.
     fn wts(&self, key: u32) -> Stamp
@@ -147,5 +198,18 @@ impl Base {
         ensures { result ≡ fits_base self.now txn.now }
     {
         self.reads_fit(txn) && self.writes_fit(txn)
+    }
+
+    // The rebuilt cells of the keys below `keys`.
+    pub(crate) fn rebuilt_cells(&self, keys: u32) -> Result<Vec<Cell>, NoMemory>
+        ensures { IfOk result (λ cells. AreRebuilt self.now keys cells.items) }
+    {
+        let alloc = *self.list.allocator();
+        let lefts = lefts_at(alloc, self.list(), keys)?;
+        let mut cells = Vec::new(alloc);
+        for left in lefts.iter() {
+            cells.push(left.cell(alloc))?;
+        }
+        Ok(cells)
     }
 }
