@@ -5,3 +5,4 @@ pub mod KeptLaws
 pub mod LeftLaws
 pub mod EveryKey
 pub mod CellsMade
+pub mod ChoosingLaws

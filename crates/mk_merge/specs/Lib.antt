@@ -4,3 +4,4 @@ pub mod Rebuilding
 pub mod Lefts
 pub mod Promises
 pub mod Merging
+pub mod Keepings

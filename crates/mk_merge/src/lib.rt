@@ -1,6 +1,7 @@
 //! Bases of epochs, the promises from which one is merged, and the views that columns have of replicas.
 #![tactic(auto)]
 
+mod choosing;
 mod handing;
 mod keeping;
 mod listing;
