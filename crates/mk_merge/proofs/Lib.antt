@@ -6,3 +6,4 @@ pub mod LeftLaws
 pub mod EveryKey
 pub mod CellsMade
 pub mod ChoosingLaws
+pub mod ReportLaws

@@ -6,6 +6,7 @@ mod handing;
 mod keeping;
 mod listing;
 mod rebuilding;
+mod reporting;
 
 pub use keeping::Keeping;
 use mk_record::Entry;
