@@ -7,3 +7,4 @@ pub mod EveryKey
 pub mod CellsMade
 pub mod ChoosingLaws
 pub mod ReportLaws
+pub mod OrderLaws
