@@ -8,3 +8,5 @@ pub mod CellsMade
 pub mod ChoosingLaws
 pub mod ReportLaws
 pub mod OrderLaws
+pub mod FateLaws
+pub mod StampLaws

@@ -5,6 +5,7 @@ mod choosing;
 mod handing;
 mod keeping;
 mod listing;
+mod merging;
 mod ordering;
 mod rebuilding;
 mod reporting;
