@@ -10,3 +10,4 @@ pub mod ReportLaws
 pub mod OrderLaws
 pub mod FateLaws
 pub mod StampLaws
+pub mod BaseLaws

@@ -1,16 +1,18 @@
 //! The base that an epoch's leader makes from promises.
-ghost use Rattle.std.specs.Prelude.{◌≡◌, map, filter, is_none, nat_le, ◌&&◌, IfOk, OnOk};
+ghost use Rattle.std.specs.Prelude.{◌≡◌, ◌++◌, map, flat_map, filter, is_none, nat_le, ◌&&◌, IfOk, OnOk};
 ghost use Rattle.std.specs.List.{list_any};
 ghost use Rattle.mk_txn.specs.Clashes.{conflict};
 ghost use Rattle.mk_txn.specs.MarkMaps.{IsMarkMap};
 ghost use Rattle.mk_txn.specs.Outcomes.{is_commit};
-ghost use Rattle.mk_txn.specs.Transactions.{same_id as is_same_id};
+ghost use Rattle.mk_txn.specs.Transactions.{AreCoherent, same_id as is_same_id};
 ghost use Rattle.mk_quorum.specs.Sizes.{hint_of};
 ghost use Rattle.mk_quorum.specs.Slots.{passes};
 ghost use Rattle.mk_merge.specs.Bases.{fated as is_fated};
-ghost use Rattle.mk_merge.specs.Merging.{settled_fate as is_settled_fate, ok_reports as count_of_oks, taken, fate_by, merged_marks as are_merged_marks};
+ghost use Rattle.mk_merge.specs.Promises.{base_of};
+ghost use Rattle.mk_merge.specs.Merging.{merged_from, settled_fate as is_settled_fate, ok_reports as count_of_oks, taken, fate_by, merged_marks as are_merged_marks};
 ghost use Rattle.mk_merge.specs.Keepings.{listed};
 
+use crate::ordering::{in_stamp_order, reported_txns};
 use crate::reporting::{ok_reports, settled_fate};
 use crate::{Base, Fated, Promise};
 use mk_quorum::Size;
@@ -32,7 +34,7 @@ fn is_candidate(promises: &[&Promise<Base>], size: Size, id: TxnId) -> bool
 }
 
 // The commits by the first three rules.
-pub(crate) fn settled_commits<'a>(
+fn settled_commits<'a>(
     alloc: Global,
     promises: &[&Promise<Base>],
     size: Size,
@@ -50,7 +52,7 @@ pub(crate) fn settled_commits<'a>(
 }
 
 // The candidates, in order of their numbers.
-pub(crate) fn candidates<'a>(
+fn candidates<'a>(
     alloc: Global,
     promises: &[&Promise<Base>],
     size: Size,
@@ -80,7 +82,7 @@ fn conflicts_with(txn: &Txn, commits: &[&Txn]) -> bool
 }
 
 // Each candidate in turn commits, unless it conflicts with a commit taken so far.
-pub(crate) fn take<'a>(
+fn take<'a>(
     commits: &mut Vec<&'a Txn>,
     candidates: &[&'a Txn],
 ) -> Result<(), NoMemory>
@@ -123,7 +125,7 @@ fn fate(epoch: u32, txn: &Txn, commits: &[&Txn], settled: Option<Outcome>) -> Ou
 }
 
 // Every reported transaction with its outcome.
-pub(crate) fn fates(
+fn fates(
     alloc: Global,
     promises: &[&Promise<Base>],
     size: Size,
@@ -145,7 +147,7 @@ pub(crate) fn fates(
 }
 
 // Of each client the greatest mark.
-pub(crate) fn merged_marks(
+fn merged_marks(
     alloc: Global,
     promises: &[&Promise<Base>],
 ) -> Result<Marks, NoMemory>
@@ -160,4 +162,31 @@ pub(crate) fn merged_marks(
         marks.join(&promise.marks)?;
     }
     Ok(marks)
+}
+
+// The base of the promises that count.
+fn merge_counting(
+    alloc: Global,
+    size: Size,
+    epoch: u32,
+    promises: &[&Promise<Base>],
+) -> Result<Base, NoMemory>
+    requires { AreCoherent (map (λ f. f.txn) (base_of (map (λ p. listed p.now) promises.now)).list ++ flat_map (λ p. map (λ e. e.txn) p.entries) (map (λ p. listed p.now) promises.now)) }
+    ensures { IfOk result (λ base. base ≡ merged_from size epoch (map (λ p. listed p.now) promises.now)) }
+{
+    let txns = reported_txns(alloc, promises)?;
+    let mut commits = settled_commits(alloc, promises, size, txns.as_slice())?;
+    let waiting = candidates(alloc, promises, size, txns.as_slice())?;
+    let waiting = in_stamp_order(alloc, waiting.as_slice())?;
+    take(&mut commits, waiting.as_slice())?;
+    let list = fates(
+        alloc,
+        promises,
+        size,
+        epoch,
+        txns.as_slice(),
+        commits.as_slice(),
+    )?;
+    let marks = merged_marks(alloc, promises)?;
+    Base::marked(alloc, list, &marks)
 }
