@@ -11,3 +11,4 @@ pub mod OrderLaws
 pub mod FateLaws
 pub mod StampLaws
 pub mod BaseLaws
+pub mod StandLaws

@@ -1,5 +1,5 @@
 -- Promises whose bases are kept as some value, and the promises that they stand for.
-use Rattle.std.specs.Prelude.{◌≡◌, List, [], ◌∷◌, map}
+use Rattle.std.specs.Prelude.{◌≡◌, ℕ, min, List, [], ◌∷◌, length}
 use Rattle.mk_merge.specs.declared.Promise.{Promise}
 use Rattle.mk_merge.specs.Bases.{BaseState}
 use Rattle.mk_merge.specs.Promises.{PromiseState}
@@ -23,3 +23,7 @@ Stand B stands (promise ∷ promises) (state ∷ states) = PromiseStands B stand
 abbrev pub listed : Promise BaseState → PromiseState
 listed promise =
     record { replica = promise.replica; adopted = promise.adopted; base = promise.base; entries = promise.entries; marks = promise.marks }
+
+-- how many promises there are, as far as 32 binary digits count
+abbrev pub counted : {X : Type 0} → List X → ℕ
+counted promises = min (length promises) 4294967295

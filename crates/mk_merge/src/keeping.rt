@@ -1,11 +1,16 @@
 //! What an epoch's base is kept as.
-ghost use Rattle.std.specs.Prelude.{◌≡◌, IfOk};
+ghost use Rattle.std.specs.Prelude.{◌≡◌, true, false, List, Err, IfOk, IfErr};
 ghost use Rattle.mk_merge.specs.Bases.{BaseState, empty_base, kept_of};
 ghost use Rattle.mk_merge.specs.Rebuilding.{fits_base, NamesBelow};
 ghost use Rattle.mk_merge.specs.Lefts.{AreRebuilt};
+ghost use Rattle.mk_merge.specs.Promises.{PromiseState, ArePromises, can_merge};
+ghost use Rattle.mk_merge.specs.Merging.{merged};
+ghost use Rattle.mk_merge.specs.Keepings.{Stand, counted};
 
-use crate::Base;
+use crate::merging::merge_listed;
+use crate::{Base, MergeError, Promise};
 use mk_cell::Cell;
+use mk_quorum::Size;
 use mk_trim::Kept;
 use mk_txn::{NoMemory, Txn};
 use std::alloc::Global;
@@ -37,6 +42,23 @@ pub trait Keeping: Drop {
     fn cells(&self, keys: u32) -> Result<Vec<Cell>, NoMemory>
         requires { (base : BaseState) × stands self.now base × NamesBelow keys base }
         ensures { IfOk result (λ cells. (base : BaseState) → stands self.now base → AreRebuilt base keys cells.items) };
+
+    /// The base of an epoch, made from promises. Of the leader's promise and the first f others those of the highest
+    /// adopted epoch count: every transaction of their base and their entries gets its outcome, and every client the
+    /// greatest of its marks. The replicas differ, and so do the attempts of one promise's entries; the bases of one
+    /// epoch are one; equal numbers mean equal transactions, and other numbers have other stamps; an entry with an Ok
+    /// vote fits its promise's base, whose marks do not cover it. `Short` with the number of promises comes exactly
+    /// where there are fewer than f + 1, or the leader's is missing.
+    fn merge(
+        alloc: Global,
+        size: Size,
+        epoch: u32,
+        promises: &[Promise<Self>],
+    ) -> Result<Self, MergeError>
+        requires { (states : List PromiseState) × Stand Self stands promises.now states × ArePromises states }
+        ensures ok { IfOk result (λ made. (states : List PromiseState) → Stand Self stands promises.now states → stands made (merged size epoch states)) }
+        ensures short { (states : List PromiseState) → Stand Self stands promises.now states → can_merge size epoch states ≡ false → result ≡ Err (MergeError.Short (counted promises.now)) }
+        ensures enough { (states : List PromiseState) → Stand Self stands promises.now states → can_merge size epoch states ≡ true → IfErr result (λ error. error ≡ MergeError.NoMemory) };
 }
 
 impl Keeping for Base {
@@ -60,5 +82,14 @@ impl Keeping for Base {
 
     fn cells(&self, keys: u32) -> Result<Vec<Cell>, NoMemory> {
         self.rebuilt_cells(keys)
+    }
+
+    fn merge(
+        alloc: Global,
+        size: Size,
+        epoch: u32,
+        promises: &[Promise<Base>],
+    ) -> Result<Base, MergeError> {
+        merge_listed(alloc, size, epoch, promises)
     }
 }

@@ -1,5 +1,5 @@
 //! The base that an epoch's leader makes from promises.
-ghost use Rattle.std.specs.Prelude.{◌≡◌, ◌++◌, map, flat_map, filter, is_none, nat_le, ◌&&◌, IfOk, OnOk};
+ghost use Rattle.std.specs.Prelude.{◌≡◌, ◌++◌, map, flat_map, filter, is_none, nat_le, true, false, Err, ◌==◌, ◌&&◌, IfOk, IfErr, OnOk};
 ghost use Rattle.std.specs.List.{list_any};
 ghost use Rattle.mk_txn.specs.Clashes.{conflict};
 ghost use Rattle.mk_txn.specs.MarkMaps.{IsMarkMap};
@@ -8,13 +8,14 @@ ghost use Rattle.mk_txn.specs.Transactions.{AreCoherent, same_id as is_same_id};
 ghost use Rattle.mk_quorum.specs.Sizes.{hint_of};
 ghost use Rattle.mk_quorum.specs.Slots.{passes};
 ghost use Rattle.mk_merge.specs.Bases.{fated as is_fated};
-ghost use Rattle.mk_merge.specs.Promises.{base_of};
-ghost use Rattle.mk_merge.specs.Merging.{merged_from, settled_fate as is_settled_fate, ok_reports as count_of_oks, taken, fate_by, merged_marks as are_merged_marks};
-ghost use Rattle.mk_merge.specs.Keepings.{listed};
+ghost use Rattle.mk_merge.specs.Promises.{base_of, can_merge, ArePromises};
+ghost use Rattle.mk_merge.specs.Merging.{merged, merged_from, settled_fate as is_settled_fate, ok_reports as count_of_oks, taken, fate_by, merged_marks as are_merged_marks};
+ghost use Rattle.mk_merge.specs.Keepings.{listed, counted};
 
+use crate::choosing::counting;
 use crate::ordering::{in_stamp_order, reported_txns};
 use crate::reporting::{ok_reports, settled_fate};
-use crate::{Base, Fated, Promise};
+use crate::{Base, Fated, MergeError, Promise};
 use mk_quorum::Size;
 use mk_txn::{Cause, Marks, NoMemory, Outcome, Txn, TxnId, conflicts, same_id};
 use std::alloc::Global;
@@ -189,4 +190,44 @@ fn merge_counting(
     )?;
     let marks = merged_marks(alloc, promises)?;
     Base::marked(alloc, list, &marks)
+}
+
+// Whether one of the promises is the leader's.
+fn is_led(promises: &[Promise<Base>], leader: u32) -> bool
+    ensures { result ≡ list_any (λ p. p.replica == leader) (map listed promises.now) }
+{
+    for promise in promises {
+        if promise.replica == leader {
+            return true;
+        }
+    }
+    false
+}
+
+// Whether a majority has promised, and the leader has.
+fn is_enough(size: Size, epoch: u32, promises: &[Promise<Base>]) -> bool
+    ensures { result ≡ can_merge size epoch (map listed promises.now) }
+{
+    size.majority() as usize <= promises.len() && is_led(promises, epoch % size.n())
+}
+
+// The base of an epoch.
+pub(crate) fn merge_listed(
+    alloc: Global,
+    size: Size,
+    epoch: u32,
+    promises: &[Promise<Base>],
+) -> Result<Base, MergeError>
+    requires { ArePromises (map listed promises.now) }
+    ensures ok { IfOk result (λ base. base ≡ merged size epoch (map listed promises.now)) }
+    ensures short { can_merge size epoch (map listed promises.now) ≡ false → result ≡ Err (MergeError.Short (counted promises.now)) }
+    ensures enough { can_merge size epoch (map listed promises.now) ≡ true → IfErr result (λ error. error ≡ MergeError.NoMemory) }
+{
+    if !is_enough(size, epoch, promises) {
+        let count = promises.len().min(u32::MAX as usize);
+        return Err(MergeError::Short(count as u32));
+    }
+    let counting = counting(alloc, size, epoch, promises)?;
+    let base = merge_counting(alloc, size, epoch, counting.as_slice())?;
+    Ok(base)
 }
