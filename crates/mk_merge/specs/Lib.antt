@@ -1,5 +1,7 @@
 -- Bases of epochs.
 pub mod Bases
 pub mod Rebuilding
+pub mod Lefts
 pub mod Promises
 pub mod Merging
+pub mod Keepings

@@ -1,6 +1,7 @@
 -- The cell of a key after a base, which transactions fit a base, and what stands for a base.
-use Rattle.std.specs.Prelude.{◌≡◌, ℕ, Bool, not, ◌&&◌}
+use Rattle.std.specs.Prelude.{◌≡◌, ℕ, Bool, true, not, ◌&&◌, nat_lt}
 use Rattle.std.specs.List.{list_all}
+use Rattle.mk_lists.specs.Among.{Each}
 use Rattle.mk_txn.specs.Stamps.{is_before}
 use Rattle.mk_txn.specs.Transactions.{Transaction}
 use Rattle.mk_txn.specs.LatestWrites.{first_version, latest_write, latest_read}
@@ -28,3 +29,11 @@ fits_base base txn = fits_cells (rebuilt base) txn
 pub record StandsFor (kept : KeptOutcomes) (cell : ℕ → CellState) (base : BaseState) : Type 0 where
   pub outcomes : kept ≡ kept_of base
   pub cells : (key : ℕ) → cell key ≡ rebuilt base key
+
+-- the transaction names no key from this number on
+abbrev pub names_below : ℕ → Transaction → Bool
+names_below keys txn = list_all (λ item. nat_lt item.key keys) txn.reads && list_all (λ item. nat_lt item.key keys) txn.writes
+
+-- no transaction of the base does
+abbrev pub NamesBelow : ℕ → BaseState → Type 0
+NamesBelow keys base = Each (λ f. names_below keys f.txn ≡ true) base.list

@@ -1,6 +1,16 @@
 //! Bases of epochs, the promises from which one is merged, and the views that columns have of replicas.
 #![tactic(auto)]
 
+mod choosing;
+mod handing;
+mod keeping;
+mod listing;
+mod merging;
+mod ordering;
+mod rebuilding;
+mod reporting;
+
+pub use keeping::Keeping;
 use mk_record::Entry;
 use mk_trim::Kept;
 use mk_txn::{Marks, NoMemory, Outcome, Txn};
@@ -16,18 +26,20 @@ pub struct Fated {
 /// What an epoch begins with: transactions with their outcomes, in order of their numbers, and the marks of clients.
 #[derive(Drop, Debug)]
 pub struct Base {
-    fates: Vec<Fated>,
-    marks: Marks,
+    list: Vec<Fated>,
+    // the outcomes that the marks do not cover, and the marks
+    kept: Kept,
 }
 
 impl Model for Base {
-    ghost use Rattle.mk_merge.specs.Bases.{BaseState, IsBase};
+    ghost use Rattle.std.specs.Prelude.{◌≡◌};
+    ghost use Rattle.mk_merge.specs.Bases.{BaseState, IsBase, kept_of};
 
     ghost Value = { BaseState };
 
-    ghost view = { λ base. record { list = base.fates.items; marks = base.marks } };
+    ghost view = { λ base. record { list = base.list.items; marks = base.kept.marks } };
 
-    ghost invariant = { λ base. IsBase (record { list = base.fates.items; marks = base.marks }) };
+    ghost invariant = { λ base. IsBase (record { list = base.list.items; marks = base.kept.marks }) × (base.kept ≡ kept_of (record { list = base.list.items; marks = base.kept.marks })) };
 }
 
 /// The entries of all columns at one replica.

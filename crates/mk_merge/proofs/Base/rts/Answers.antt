@@ -1,0 +1,11 @@
+use Rattle.std.proofs.Common.{List, ap, ◌∙◌}
+use Rattle.mk_merge.specs.declared.Fated.{Fated}
+use Rattle.mk_merge.specs.Bases.{commits_in}
+use Rattle.mk_merge.specs.Lefts.{LeftState, nothing_left, left_by}
+use Rattle.mk_merge.proofs.LeftLaws.{rts-rebuilt}
+use Rattle.mk_merge.proofs.Base.rts.Goals as goal
+
+pub returns : goal.returns
+returns c =
+    ap (λ (left : LeftState). left.rts) (c.left_at-2.view_is ∙ (c.left_at.ensures ∙ ap (λ (list : List Fated). left_by c.args.key nothing_left (commits_in list)) c.list.ensures.value))
+    ∙ rts-rebuilt c.args.self.now c.args.key

@@ -1,0 +1,218 @@
+-- What commits leave at every key, one item and one commit after another.
+use Rattle.std.proofs.Common.{◌≡◌, ℕ, ◌<◌, ◌≤◌, ◌+◌, Bool, true, false, refl, sym, ap, subst, ◌∙◌, List, [], ◌∷◌, length, get_or, set, drop, replicate, arith, ◌==◌, if◌then◌else◌, length-set, get_or-set_same, get_or-set_other, eq-eqb, ne_eqb}
+use Rattle.std.proofs.lemmas.Bool.Decides.{nat_tests}
+use Rattle.std.proofs.lemmas.List.{drop_all, get_or-replicate, length-replicate}
+use Rattle.std.proofs.lemmas.Option.{same_Some, slice_get-get_or}
+use native.Mathlib.Decide.{ℕ_discrete}
+use Rattle.mk_txn.specs.declared.Stamp.{Stamp}
+use Rattle.mk_txn.specs.declared.Value.{Value}
+use Rattle.mk_txn.specs.declared.ReadItem.{ReadItem}
+use Rattle.mk_txn.specs.declared.WriteItem.{WriteItem}
+use Rattle.mk_txn.specs.Stamps.{is_before, later_stamp}
+use Rattle.mk_txn.specs.Transactions.{Transaction}
+use Rattle.mk_txn.specs.LatestWrites.{after_write, after_writes}
+use Rattle.mk_txn.specs.Outcomes.{is_commit}
+use Rattle.mk_merge.specs.declared.Fated.{Fated}
+use Rattle.mk_merge.specs.Bases.{commits_in}
+use Rattle.mk_merge.specs.Lefts.{LeftState, nothing_left, with_write, with_read, after_reads, after_commit, left_by, AreWritten, AreRead, AreLeft}
+use Rattle.mk_merge.proofs.ListLaws.{drop-at}
+
+-- what is read inside a list is read whatever stands for its outside
+pub default-free : {X : Type 0} (xs : List X) (k : ℕ) (a b : X) → k < length xs → get_or xs k a ≡ get_or xs k b
+default-free xs k a b inside = same_Some (get_or xs k a) (get_or xs k b) (sym (slice_get-get_or xs k a inside) ∙ slice_get-get_or xs k b inside)
+
+-- what stands at a key after one was changed
+set-here : (now : List LeftState) (k key : ℕ) (new d : LeftState) → k < length now → key ≡ k → get_or (set now k new) key d ≡ new
+set-here now k key new d inside here = ap (λ i. get_or (set now k new) i d) here ∙ get_or-set_same now k new d inside
+
+was-here : (now : List LeftState) (k key : ℕ) (x d : LeftState) → k < length now → key ≡ k → x ≡ get_or now k x → get_or now key d ≡ x
+was-here now k key x d inside here is = ap (λ i. get_or now i d) here ∙ default-free now k d x inside ∙ sym is
+
+-- ---- writes
+
+-- with the writes that are left it comes to all of them
+pub record ComeToWritten (stamp : Stamp) (all left : List WriteItem) (old now : List LeftState) : Type 0 where
+  pub long : length now ≡ length old
+  pub latest : (key : ℕ) (d : LeftState) → key < length old → after_writes key stamp (get_or now key d).latest left ≡ after_writes key stamp (get_or old key d).latest all
+  pub rts : (key : ℕ) (d : LeftState) → key < length old → (get_or now key d).rts ≡ (get_or old key d).rts
+
+pub written-begins : (stamp : Stamp) (all : List WriteItem) (old : List LeftState) → ComeToWritten stamp all all old old
+written-begins stamp all old = record { long = refl; latest = λ key d within. refl; rts = λ key d within. refl }
+
+pub written-ends : (stamp : Stamp) (all : List WriteItem) (i : ℕ) (old now : List LeftState) → length all ≤ i → ComeToWritten stamp all (drop i all) old now → AreWritten stamp all old now
+written-ends stamp all i old now past h =
+    let none : ComeToWritten stamp all [] old now = subst (λ left. ComeToWritten stamp all left old now) (drop_all i all past) h in
+    record { all = none.long; latest = none.latest; rts = none.rts }
+
+-- a write whose key is none of these
+written-past : (stamp : Stamp) (all left : List WriteItem) (item : WriteItem) (old now : List LeftState) → length now ≤ item.key
+    → ComeToWritten stamp all (item ∷ left) old now → ComeToWritten stamp all left old now
+written-past stamp all left item old now past h = record {
+  long = h.long;
+  latest = λ key d within.
+      let long = h.long in
+      let miss : (item.key == key) ≡ false = grind (arith, nat_tests, within, past, long) in
+      let at = (get_or now key d).latest in
+      ap (λ b. after_writes key stamp (if b then (if is_before stamp at.version then at else record { version = stamp; value = item.value }) else at) left) (sym miss) ∙ h.latest key d within;
+  rts = h.rts;
+}
+
+-- a write at its key
+written-here : (stamp : Stamp) (all left : List WriteItem) (item : WriteItem) (old now : List LeftState) (x : LeftState) → item.key < length now → x ≡ get_or now item.key x
+    → ComeToWritten stamp all (item ∷ left) old now → ComeToWritten stamp all left old (set now item.key (with_write stamp item.value x))
+written-here stamp all left item old now x inside is h = record {
+  long = length-set now item.key (with_write stamp item.value x) ∙ h.long;
+  latest = λ key d within. latest_by key d within (ℕ_discrete key item.key);
+  rts = λ key d within. rts_by key d within (ℕ_discrete key item.key);
+} where
+  latest_by : (key : ℕ) (d : LeftState) → key < length old → Dec (key ≡ item.key)
+      → after_writes key stamp (get_or (set now item.key (with_write stamp item.value x)) key d).latest left ≡ after_writes key stamp (get_or old key d).latest all
+  latest_by key d within (yes here) =
+      let hit : (item.key == key) ≡ true = grind (arith, nat_tests, here) in
+      let at = (get_or now key d).latest in
+      ap (λ (l : LeftState). after_writes key stamp l.latest left) (set-here now item.key key (with_write stamp item.value x) d inside here)
+      ∙ ap (λ (y : LeftState). after_writes key stamp (if is_before stamp y.latest.version then y.latest else record { version = stamp; value = item.value }) left) (sym (was-here now item.key key x d inside here is))
+      ∙ ap (λ b. after_writes key stamp (if b then (if is_before stamp at.version then at else record { version = stamp; value = item.value }) else at) left) (sym hit)
+      ∙ h.latest key d within
+  latest_by key d within (no apart) =
+      let miss : (item.key == key) ≡ false = grind (arith, nat_tests, apart) in
+      let at = (get_or now key d).latest in
+      ap (λ (l : LeftState). after_writes key stamp l.latest left) (get_or-set_other now item.key key (with_write stamp item.value x) d apart)
+      ∙ ap (λ b. after_writes key stamp (if b then (if is_before stamp at.version then at else record { version = stamp; value = item.value }) else at) left) (sym miss)
+      ∙ h.latest key d within
+
+  rts_by : (key : ℕ) (d : LeftState) → key < length old → Dec (key ≡ item.key) → (get_or (set now item.key (with_write stamp item.value x)) key d).rts ≡ (get_or old key d).rts
+  rts_by key d within (yes here) =
+      ap (λ (l : LeftState). l.rts) (set-here now item.key key (with_write stamp item.value x) d inside here ∙ refl)
+      ∙ ap (λ (l : LeftState). l.rts) (sym (was-here now item.key key x d inside here is)) ∙ h.rts key d within
+  rts_by key d within (no apart) = ap (λ (l : LeftState). l.rts) (get_or-set_other now item.key key (with_write stamp item.value x) d apart) ∙ h.rts key d within
+
+pub written-next : (stamp : Stamp) (all : List WriteItem) (i : ℕ) (item : WriteItem) (old now : List LeftState) (x new : LeftState) → i < length all → item ≡ get_or all i item
+    → item.key < length now → x ≡ get_or now item.key x → new ≡ with_write stamp item.value x
+    → ComeToWritten stamp all (drop i all) old now → ComeToWritten stamp all (drop (i + 1) all) old (set now item.key new)
+written-next stamp all i item old now x new within is inside at made h =
+    subst (λ y. ComeToWritten stamp all (drop (i + 1) all) old (set now item.key y)) (sym made)
+    (written-here stamp all (drop (i + 1) all) item old now x inside at (subst (λ left. ComeToWritten stamp all left old now) (drop-at all i item within is) h))
+
+pub written-skip : (stamp : Stamp) (all : List WriteItem) (i : ℕ) (item : WriteItem) (old now : List LeftState) → i < length all → item ≡ get_or all i item → length now ≤ item.key
+    → ComeToWritten stamp all (drop i all) old now → ComeToWritten stamp all (drop (i + 1) all) old now
+written-skip stamp all i item old now within is past h =
+    written-past stamp all (drop (i + 1) all) item old now past (subst (λ left. ComeToWritten stamp all left old now) (drop-at all i item within is) h)
+
+-- ---- reads
+
+-- with the reads that are left it comes to all of them
+pub record ComeToRead (stamp : Stamp) (all left : List ReadItem) (old now : List LeftState) : Type 0 where
+  pub long : length now ≡ length old
+  pub latest : (key : ℕ) (d : LeftState) → key < length old → (get_or now key d).latest ≡ (get_or old key d).latest
+  pub rts : (key : ℕ) (d : LeftState) → key < length old → after_reads key stamp (get_or now key d).rts left ≡ after_reads key stamp (get_or old key d).rts all
+
+pub read-begins : (stamp : Stamp) (all : List ReadItem) (old : List LeftState) → ComeToRead stamp all all old old
+read-begins stamp all old = record { long = refl; latest = λ key d within. refl; rts = λ key d within. refl }
+
+pub read-ends : (stamp : Stamp) (all : List ReadItem) (i : ℕ) (old now : List LeftState) → length all ≤ i → ComeToRead stamp all (drop i all) old now → AreRead stamp all old now
+read-ends stamp all i old now past h =
+    let none : ComeToRead stamp all [] old now = subst (λ left. ComeToRead stamp all left old now) (drop_all i all past) h in
+    record { all = none.long; latest = none.latest; rts = none.rts }
+
+read-past : (stamp : Stamp) (all left : List ReadItem) (item : ReadItem) (old now : List LeftState) → length now ≤ item.key
+    → ComeToRead stamp all (item ∷ left) old now → ComeToRead stamp all left old now
+read-past stamp all left item old now past h = record {
+  long = h.long;
+  latest = h.latest;
+  rts = λ key d within.
+      let long = h.long in
+      let miss : (item.key == key) ≡ false = grind (arith, nat_tests, within, past, long) in
+      ap (λ b. after_reads key stamp (if b then later_stamp (get_or now key d).rts stamp else (get_or now key d).rts) left) (sym miss) ∙ h.rts key d within;
+}
+
+-- a read at its key
+read-here : (stamp : Stamp) (all left : List ReadItem) (item : ReadItem) (old now : List LeftState) (x : LeftState) → item.key < length now → x ≡ get_or now item.key x
+    → ComeToRead stamp all (item ∷ left) old now → ComeToRead stamp all left old (set now item.key (with_read stamp x))
+read-here stamp all left item old now x inside is h = record {
+  long = length-set now item.key (with_read stamp x) ∙ h.long;
+  latest = λ key d within. latest_by key d within (ℕ_discrete key item.key);
+  rts = λ key d within. rts_by key d within (ℕ_discrete key item.key);
+} where
+  rts_by : (key : ℕ) (d : LeftState) → key < length old → Dec (key ≡ item.key)
+      → after_reads key stamp (get_or (set now item.key (with_read stamp x)) key d).rts left ≡ after_reads key stamp (get_or old key d).rts all
+  rts_by key d within (yes here) =
+      let hit : (item.key == key) ≡ true = grind (arith, nat_tests, here) in
+      ap (λ (l : LeftState). after_reads key stamp l.rts left) (set-here now item.key key (with_read stamp x) d inside here)
+      ∙ ap (λ (y : LeftState). after_reads key stamp (later_stamp y.rts stamp) left) (sym (was-here now item.key key x d inside here is))
+      ∙ ap (λ b. after_reads key stamp (if b then later_stamp (get_or now key d).rts stamp else (get_or now key d).rts) left) (sym hit)
+      ∙ h.rts key d within
+  rts_by key d within (no apart) =
+      let miss : (item.key == key) ≡ false = grind (arith, nat_tests, apart) in
+      ap (λ (l : LeftState). after_reads key stamp l.rts left) (get_or-set_other now item.key key (with_read stamp x) d apart)
+      ∙ ap (λ b. after_reads key stamp (if b then later_stamp (get_or now key d).rts stamp else (get_or now key d).rts) left) (sym miss)
+      ∙ h.rts key d within
+
+  latest_by : (key : ℕ) (d : LeftState) → key < length old → Dec (key ≡ item.key) → (get_or (set now item.key (with_read stamp x)) key d).latest ≡ (get_or old key d).latest
+  latest_by key d within (yes here) =
+      ap (λ (l : LeftState). l.latest) (set-here now item.key key (with_read stamp x) d inside here)
+      ∙ ap (λ (l : LeftState). l.latest) (sym (was-here now item.key key x d inside here is)) ∙ h.latest key d within
+  latest_by key d within (no apart) = ap (λ (l : LeftState). l.latest) (get_or-set_other now item.key key (with_read stamp x) d apart) ∙ h.latest key d within
+
+pub read-next : (stamp : Stamp) (all : List ReadItem) (i : ℕ) (item : ReadItem) (old now : List LeftState) (x new : LeftState) → i < length all → item ≡ get_or all i item
+    → item.key < length now → x ≡ get_or now item.key x → new ≡ with_read stamp x
+    → ComeToRead stamp all (drop i all) old now → ComeToRead stamp all (drop (i + 1) all) old (set now item.key new)
+read-next stamp all i item old now x new within is inside at made h =
+    subst (λ y. ComeToRead stamp all (drop (i + 1) all) old (set now item.key y)) (sym made)
+    (read-here stamp all (drop (i + 1) all) item old now x inside at (subst (λ left. ComeToRead stamp all left old now) (drop-at all i item within is) h))
+
+pub read-skip : (stamp : Stamp) (all : List ReadItem) (i : ℕ) (item : ReadItem) (old now : List LeftState) → i < length all → item ≡ get_or all i item → length now ≤ item.key
+    → ComeToRead stamp all (drop i all) old now → ComeToRead stamp all (drop (i + 1) all) old now
+read-skip stamp all i item old now within is past h =
+    read-past stamp all (drop (i + 1) all) item old now past (subst (λ left. ComeToRead stamp all left old now) (drop-at all i item within is) h)
+
+-- ---- commits
+
+-- with the commits that are left it comes to all of them
+pub record ComeToLeft (all left : List Transaction) (keys : ℕ) (lefts : List LeftState) : Type 0 where
+  pub long : length lefts ≡ keys
+  pub each : (key : ℕ) (d : LeftState) → key < keys → left_by key (get_or lefts key d) left ≡ left_by key nothing_left all
+
+pub left-ends : (all : List Transaction) (keys : ℕ) (lefts : List LeftState) → ComeToLeft all [] keys lefts → AreLeft all keys lefts
+left-ends all keys lefts h = record { all = h.long; each = h.each }
+
+-- one more commit, whose writes and then reads came to every key
+pub left-next : (all left : List Transaction) (txn : Transaction) (keys : ℕ) (old written new : List LeftState) → AreWritten txn.stamp txn.writes old written → AreRead txn.stamp txn.reads written new
+    → ComeToLeft all (txn ∷ left) keys old → ComeToLeft all left keys new
+left-next all left txn keys old written new writes reads h = record {
+  long = reads.all ∙ (writes.all ∙ h.long);
+  each = λ key d within.
+      let in_old : key < length old = subst (λ n. key < n) (sym h.long) within in
+      let in_written : key < length written = subst (λ n. key < n) (sym (writes.all ∙ h.long)) within in
+      let latest : (get_or new key d).latest ≡ after_writes key txn.stamp (get_or old key d).latest txn.writes = reads.latest key d in_written ∙ writes.latest key d in_old in
+      let rts : (get_or new key d).rts ≡ after_reads key txn.stamp (get_or old key d).rts txn.reads = reads.rts key d in_written ∙ ap (λ r. after_reads key txn.stamp r txn.reads) (writes.rts key d in_old) in
+      ap (λ (l : LeftState). left_by key l left) (left-is (get_or new key d) (after_commit key txn (get_or old key d)) latest rts) ∙ h.each key d within;
+} where
+  left-is : (a b : LeftState) → a.latest ≡ b.latest → a.rts ≡ b.rts → a ≡ b
+  left-is a b e f = λ i. record { latest = e i; rts = f i }
+
+-- ---- a list of fates
+
+pub lefts-begin : (list : List Fated) (keys : ℕ) → ComeToLeft (commits_in list) (commits_in (drop 0 list)) keys (replicate keys nothing_left)
+lefts-begin list keys = record {
+  long = length-replicate keys nothing_left;
+  each = λ key d within. ap (λ (l : LeftState). left_by key l (commits_in list)) (get_or-replicate keys key nothing_left d within);
+}
+
+pub lefts-end : (list : List Fated) (i keys : ℕ) (lefts : List LeftState) → length list ≤ i → ComeToLeft (commits_in list) (commits_in (drop i list)) keys lefts → AreLeft (commits_in list) keys lefts
+lefts-end list i keys lefts past h =
+    left-ends (commits_in list) keys lefts (subst (λ left. ComeToLeft (commits_in list) (commits_in left) keys lefts) (drop_all i list past) h)
+
+pub lefts-next : (list : List Fated) (i : ℕ) (f : Fated) (keys : ℕ) (old written new : List LeftState) → i < length list → f ≡ get_or list i f → is_commit f.outcome ≡ true
+    → AreWritten f.txn.stamp f.txn.writes old written → AreRead f.txn.stamp f.txn.reads written new
+    → ComeToLeft (commits_in list) (commits_in (drop i list)) keys old → ComeToLeft (commits_in list) (commits_in (drop (i + 1) list)) keys new
+lefts-next list i f keys old written new within is commit writes reads h =
+    left-next (commits_in list) (commits_in (drop (i + 1) list)) f.txn keys old written new writes reads
+    (subst (λ left. ComeToLeft (commits_in list) left keys old)
+    (ap commits_in (drop-at list i f within is) ∙ ap (λ b. if b then f.txn ∷ commits_in (drop (i + 1) list) else commits_in (drop (i + 1) list)) commit) h)
+
+pub lefts-skip : (list : List Fated) (i : ℕ) (f : Fated) (keys : ℕ) (lefts : List LeftState) → i < length list → f ≡ get_or list i f → is_commit f.outcome ≡ false
+    → ComeToLeft (commits_in list) (commits_in (drop i list)) keys lefts → ComeToLeft (commits_in list) (commits_in (drop (i + 1) list)) keys lefts
+lefts-skip list i f keys lefts within is abort h =
+    subst (λ left. ComeToLeft (commits_in list) left keys lefts)
+    (ap commits_in (drop-at list i f within is) ∙ ap (λ b. if b then f.txn ∷ commits_in (drop (i + 1) list) else commits_in (drop (i + 1) list)) abort) h

@@ -1,0 +1,105 @@
+-- Fates, found transaction by transaction.
+use Rattle.std.proofs.Common.{◌≡◌, ℕ, ◌<◌, ◌≤◌, ◌+◌, Bool, true, false, not, refl, sym, ap, subst, ◌∙◌, List, [], ◌∷◌, ◌++◌, length, get_or, map, filter, drop, Option, None, append_assoc, if◌then◌else◌}
+use Rattle.std.proofs.lemmas.List.{append-nil, drop_all}
+use Rattle.std.specs.List.{list_any}
+use Rattle.std.specs.Borrow.{Bor}
+use Rattle.mk_txn.specs.declared.TxnId.{TxnId}
+use Rattle.mk_txn.specs.declared.Cause.TheVariants.{Epoch as ByEpoch}
+use Rattle.mk_txn.specs.declared.Outcome.{Outcome}
+use Rattle.mk_txn.specs.declared.Outcome.TheVariants.{Commit, Abort}
+use Rattle.mk_txn.specs.Clashes.{conflict}
+use Rattle.mk_txn.specs.Transactions.{Transaction, same_id}
+use Rattle.mk_merge.specs.declared.Fated.{Fated}
+use Rattle.mk_merge.specs.Merging.{taken, fate_by}
+use Rattle.mk_merge.proofs.ListLaws.{drop-at}
+
+-- the transactions that are borrowed
+abbrev pub nows : List (Bor Transaction) → List Transaction
+nows txns = map (λ t. t.now) txns
+
+nows-push : (txns : List (Bor Transaction)) (t : Bor Transaction) → nows (txns ++ t ∷ []) ≡ nows txns ++ t.now ∷ []
+nows-push [] t = refl
+nows-push (x ∷ txns) t = ap (λ ts. x.now ∷ ts) (nows-push txns t)
+
+-- ---- those that pass a test
+
+-- with those that are left it comes to all that pass
+abbrev pub ComesToFiltered : (Transaction → Bool) → List (Bor Transaction) → ℕ → List (Bor Transaction) → Type 0
+ComesToFiltered p all i found = nows found ++ filter p (nows (drop i all)) ≡ filter p (nows all)
+
+pub filtered-add : (p : Transaction → Bool) (all : List (Bor Transaction)) (i : ℕ) (t : Bor Transaction) (old new : List (Bor Transaction)) → i < length all → t ≡ get_or all i t → p t.now ≡ true → new ≡ old ++ t ∷ []
+    → ComesToFiltered p all i old → ComesToFiltered p all (i + 1) new
+filtered-add p all i t old new within is pass pushed h =
+    let more = filter p (nows (drop (i + 1) all)) in
+    ap (λ found. found ++ more) (ap nows pushed ∙ nows-push old t)
+    ∙ append_assoc (nows old) (t.now ∷ []) more
+    ∙ ap (λ b. nows old ++ (if b then t.now ∷ more else more)) (sym pass)
+    ∙ ap (λ left. nows old ++ filter p (nows left)) (sym (drop-at all i t within is))
+    ∙ h
+
+pub filtered-skip : (p : Transaction → Bool) (all : List (Bor Transaction)) (i : ℕ) (t : Bor Transaction) (found : List (Bor Transaction)) → i < length all → t ≡ get_or all i t → p t.now ≡ false
+    → ComesToFiltered p all i found → ComesToFiltered p all (i + 1) found
+filtered-skip p all i t found within is miss h =
+    let more = filter p (nows (drop (i + 1) all)) in
+    ap (λ b. nows found ++ (if b then t.now ∷ more else more)) (sym miss)
+    ∙ ap (λ left. nows found ++ filter p (nows left)) (sym (drop-at all i t within is))
+    ∙ h
+
+pub filtered-ends : (p : Transaction → Bool) (all : List (Bor Transaction)) (i : ℕ) (found : List (Bor Transaction)) → length all ≤ i → ComesToFiltered p all i found → nows found ≡ filter p (nows all)
+filtered-ends p all i found past h = sym (append-nil (nows found)) ∙ ap (λ left. nows found ++ filter p (nows left)) (sym (drop_all i all past)) ∙ h
+
+-- ---- candidates in turn
+
+-- with those that are left it comes to all that are taken
+abbrev pub ComesToTaken : List (Bor Transaction) → ℕ → List (Bor Transaction) → List (Bor Transaction) → Type 0
+ComesToTaken all i begun commits = taken (nows commits) (nows (drop i all)) ≡ taken (nows begun) (nows all)
+
+pub taken-add : (all : List (Bor Transaction)) (i : ℕ) (t : Bor Transaction) (begun old new : List (Bor Transaction)) → i < length all → t ≡ get_or all i t → list_any (conflict t.now) (nows old) ≡ false → new ≡ old ++ t ∷ []
+    → ComesToTaken all i begun old → ComesToTaken all (i + 1) begun new
+taken-add all i t begun old new within is free pushed h =
+    ap (λ commits. taken commits (nows (drop (i + 1) all))) (ap nows pushed ∙ nows-push old t)
+    ∙ ap (λ b. taken (if b then nows old else nows old ++ t.now ∷ []) (nows (drop (i + 1) all))) (sym free)
+    ∙ ap (λ left. taken (nows old) (nows left)) (sym (drop-at all i t within is))
+    ∙ h
+
+pub taken-skip : (all : List (Bor Transaction)) (i : ℕ) (t : Bor Transaction) (begun commits : List (Bor Transaction)) → i < length all → t ≡ get_or all i t → list_any (conflict t.now) (nows commits) ≡ true
+    → ComesToTaken all i begun commits → ComesToTaken all (i + 1) begun commits
+taken-skip all i t begun commits within is clash h =
+    ap (λ b. taken (if b then nows commits else nows commits ++ t.now ∷ []) (nows (drop (i + 1) all))) (sym clash)
+    ∙ ap (λ left. taken (nows commits) (nows left)) (sym (drop-at all i t within is))
+    ∙ h
+
+pub taken-ends : (all : List (Bor Transaction)) (i : ℕ) (begun commits : List (Bor Transaction)) → length all ≤ i → ComesToTaken all i begun commits → nows commits ≡ taken (nows begun) (nows all)
+taken-ends all i begun commits past h = ap (λ left. taken (nows commits) (nows left)) (sym (drop_all i all past)) ∙ h
+
+-- ---- every transaction with its fate
+
+-- with those that are left it comes to all fates
+abbrev pub ComesToFates : (Transaction → Fated) → List (Bor Transaction) → ℕ → List Fated → Type 0
+ComesToFates F all i list = list ++ map F (nows (drop i all)) ≡ map F (nows all)
+
+pub fates-add : (F : Transaction → Fated) (all : List (Bor Transaction)) (i : ℕ) (t : Bor Transaction) (f : Fated) (old new : List Fated) → i < length all → t ≡ get_or all i t → f ≡ F t.now → new ≡ old ++ f ∷ []
+    → ComesToFates F all i old → ComesToFates F all (i + 1) new
+fates-add F all i t f old new within is made pushed h =
+    let more = map F (nows (drop (i + 1) all)) in
+    ap (λ list. list ++ more) (pushed ∙ ap (λ x. old ++ x ∷ []) made)
+    ∙ append_assoc old (F t.now ∷ []) more
+    ∙ ap (λ left. old ++ map F (nows left)) (sym (drop-at all i t within is))
+    ∙ h
+
+pub fates-end : (F : Transaction → Fated) (all : List (Bor Transaction)) (i : ℕ) (list : List Fated) → length all ≤ i → ComesToFates F all i list → list ≡ map F (nows all)
+fates-end F all i list past h = sym (append-nil list) ∙ ap (λ left. list ++ map F (nows left)) (sym (drop_all i all past)) ∙ h
+
+-- ---- one fate
+
+pub fate-taken : (epoch : ℕ) (txn : Transaction) (commits : List Transaction) (settled : Option Outcome) (id : TxnId) (b : Bool) → settled ≡ None → id ≡ txn.id → b ≡ list_any (λ c. same_id c.id id) commits → b ≡ true
+    → Commit ≡ fate_by epoch txn commits settled
+fate-taken epoch txn commits settled id b none same found hit =
+    ap (λ t. if t then Commit else Abort (ByEpoch epoch)) (sym hit ∙ found ∙ ap (λ i. list_any (λ (c : Transaction). same_id c.id i) commits) same)
+    ∙ sym (ap (fate_by epoch txn commits) none)
+
+pub fate-aborted : (epoch : ℕ) (txn : Transaction) (commits : List Transaction) (settled : Option Outcome) (id : TxnId) (b : Bool) → settled ≡ None → id ≡ txn.id → b ≡ list_any (λ c. same_id c.id id) commits → b ≡ false
+    → Abort (ByEpoch epoch) ≡ fate_by epoch txn commits settled
+fate-aborted epoch txn commits settled id b none same found miss =
+    ap (λ t. if t then Commit else Abort (ByEpoch epoch)) (sym miss ∙ found ∙ ap (λ i. list_any (λ (c : Transaction). same_id c.id i) commits) same)
+    ∙ sym (ap (fate_by epoch txn commits) none)
