@@ -39,11 +39,7 @@ impl Base {
     }
 
     // These transactions with their outcomes under these marks.
-    pub(crate) fn marked(
-        alloc: Global,
-        list: Vec<Fated>,
-        marks: &Marks,
-    ) -> Result<Base, NoMemory>
+    pub(crate) fn marked(alloc: Global, list: Vec<Fated>, marks: &Marks) -> Result<Base, NoMemory>
         requires ordered { IsInIdOrder list.items }
         requires marked { IsMarkMap marks.now }
         ensures { IfOk result (λ base. base ≡ record { list = list.items; marks = marks.now }) }

@@ -83,10 +83,7 @@ fn conflicts_with(txn: &Txn, commits: &[&Txn]) -> bool
 }
 
 // Each candidate in turn commits, unless it conflicts with a commit taken so far.
-fn take<'a>(
-    commits: &mut Vec<&'a Txn>,
-    candidates: &[&'a Txn],
-) -> Result<(), NoMemory>
+fn take<'a>(commits: &mut Vec<&'a Txn>, candidates: &[&'a Txn]) -> Result<(), NoMemory>
     ensures { OnOk result (map (λ t. t.now) commits.new.items ≡ taken (map (λ t. t.now) commits.old.items) (map (λ t. t.now) candidates.now)) }
 {
     for txn in candidates {
@@ -148,10 +145,7 @@ fn fates(
 }
 
 // Of each client the greatest mark.
-fn merged_marks(
-    alloc: Global,
-    promises: &[&Promise<Base>],
-) -> Result<Marks, NoMemory>
+fn merged_marks(alloc: Global, promises: &[&Promise<Base>]) -> Result<Marks, NoMemory>
     ensures value { IfOk result (λ marks. marks ≡ are_merged_marks (map (λ p. listed p.now) promises.now)) }
     ensures fits { IfOk result IsMarkMap }
 {

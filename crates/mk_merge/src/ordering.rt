@@ -34,10 +34,7 @@ fn add_entries<'a>(txns: &mut Vec<&'a Txn>, entries: &'a [Entry]) -> Result<(), 
 }
 
 // The transactions of the base and of all entries, some of them repeatedly.
-fn all_txns<'a>(
-    alloc: Global,
-    promises: &[&'a Promise<Base>],
-) -> Result<Vec<&'a Txn>, NoMemory>
+fn all_txns<'a>(alloc: Global, promises: &[&'a Promise<Base>]) -> Result<Vec<&'a Txn>, NoMemory>
     ensures { IfOk result (λ txns. map (λ t. t.now) txns.items ≡ map (λ f. f.txn) (base_of (map (λ p. listed p.now) promises.now)).list ++ flat_map (λ p. map (λ e. e.txn) p.entries) (map (λ p. listed p.now) promises.now)) }
 {
     let mut txns = Vec::new(alloc);
@@ -93,10 +90,7 @@ pub(crate) fn reported_txns<'a>(
 }
 
 // Transactions of distinct stamps in order of stamp.
-fn by_stamp<'a>(
-    alloc: Global,
-    txns: &[&'a Txn],
-) -> Result<BTreeMap<Stamp, &'a Txn>, NoMemory>
+fn by_stamp<'a>(alloc: Global, txns: &[&'a Txn]) -> Result<BTreeMap<Stamp, &'a Txn>, NoMemory>
     requires { AllDistinct (map (λ t. t.now.stamp) txns.now) }
     ensures { IfOk result (λ table. map (λ e. e.1.now) table.entries ≡ is_in_stamp_order (map (λ t. t.now) txns.now)) }
 {
@@ -111,10 +105,7 @@ fn by_stamp<'a>(
 }
 
 // The same transactions in order of stamp.
-pub(crate) fn in_stamp_order<'a>(
-    alloc: Global,
-    txns: &[&'a Txn],
-) -> Result<Vec<&'a Txn>, NoMemory>
+pub(crate) fn in_stamp_order<'a>(alloc: Global, txns: &[&'a Txn]) -> Result<Vec<&'a Txn>, NoMemory>
     requires { AllDistinct (map (λ t. t.now.stamp) txns.now) }
     ensures { IfOk result (λ ordered. map (λ t. t.now) ordered.items ≡ is_in_stamp_order (map (λ t. t.now) txns.now)) }
 {
