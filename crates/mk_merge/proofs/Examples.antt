@@ -1,5 +1,5 @@
 -- Promises of one transaction, for which a base can be made.
-use Rattle.std.proofs.Common.{◌≡◌, ℕ, Bool, true, false, not, refl, sym, ap, ◌∙◌, inl, inr, arith, List, [], ◌∷◌, map, ◌&&◌}
+use Rattle.std.proofs.Common.{◌≡◌, ℕ, true, false, not, refl, sym, ap, ◌∙◌, inl, inr, arith, List, [], ◌∷◌, ◌&&◌}
 use Rattle.std.specs.Prelude.{flat_map}
 use Rattle.std.specs.List.{list_all}
 use Rattle.std.proofs.lemmas.Bool.Decides.{nat_tests}
@@ -12,7 +12,7 @@ use Rattle.mk_txn.specs.MarkMaps.{covers}
 use Rattle.mk_txn.specs.Stamps.{is_before, zero_stamp}
 use Rattle.mk_txn.specs.Transactions.{Transaction, AreCoherent}
 use Rattle.mk_record.specs.Entries.{opened, with_vote}
-use Rattle.mk_merge.specs.Bases.{BaseState, empty_base}
+use Rattle.mk_merge.specs.Bases.{empty_base}
 use Rattle.mk_merge.specs.Rebuilding.{fits_base}
 use Rattle.mk_merge.specs.Promises.{PromiseState, ArePromises, EntryFits, promised_txns}
 
