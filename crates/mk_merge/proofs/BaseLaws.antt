@@ -1,5 +1,5 @@
 -- What the promises that count give is a base, and its candidates have distinct stamps.
-use Rattle.std.proofs.Common.{◌≡◌, ℕ, zero, suc, ◌⊎◌, inl, inr, Bool, true, false, not, refl, sym, ap, subst, ◌∙◌, List, [], ◌∷◌, ◌++◌, map, filter, take, ◌==◌, if◌then◌else◌}
+use Rattle.std.proofs.Common.{◌≡◌, ℕ, zero, suc, inl, inr, Bool, true, false, not, refl, sym, ap, subst, ◌∙◌, List, [], ◌∷◌, ◌++◌, map, filter, take, ◌==◌, if◌then◌else◌}
 use Rattle.std.specs.Prelude.{flat_map, is_none, nat_le, ◌&&◌}
 use Rattle.std.proofs.lemmas.Bool.{false≢true}
 use Rattle.mk_lists.specs.Among.{Among, Each, Each-weaker, AllDistinct, Among-append, Among-append_left, Among-append_right, Each-among}

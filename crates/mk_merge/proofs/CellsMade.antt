@@ -1,12 +1,11 @@
 -- Rebuilt cells, made one after another of what is left at the keys.
-use Rattle.std.proofs.Common.{◌≡◌, ℕ, ◌<◌, ◌≤◌, ◌+◌, refl, sym, ap, subst, ◌∙◌, List, [], ◌∷◌, ◌++◌, length, get_or, arith, length-append}
+use Rattle.std.proofs.Common.{◌≡◌, ℕ, ◌<◌, ◌≤◌, ◌+◌, sym, ap, subst, ◌∙◌, List, [], ◌∷◌, ◌++◌, length, get_or, arith, length-append}
 use Rattle.std.proofs.lemmas.List.{get_or_append_left, get_or_push}
 use native.Mathlib.Decide.{dec_lt}
 use mathlib.Core.Logic.{dite}
-use Rattle.mk_cell.specs.Cells.{CellState, CellView}
+use Rattle.mk_cell.specs.Cells.{CellView}
 use Rattle.mk_merge.specs.Bases.{BaseState, commits_in}
-use Rattle.mk_merge.specs.Rebuilding.{rebuilt}
-use Rattle.mk_merge.specs.Lefts.{LeftState, nothing_left, left_by, cell_left, AreLeft, AreRebuilt}
+use Rattle.mk_merge.specs.Lefts.{LeftState, nothing_left, cell_left, AreLeft, AreRebuilt}
 use Rattle.mk_merge.proofs.LeftLaws.{left-rebuilt}
 use Rattle.mk_merge.proofs.EveryKey.{default-free}
 

@@ -1,16 +1,15 @@
 -- What commits leave at every key, one item and one commit after another.
-use Rattle.std.proofs.Common.{◌≡◌, ℕ, ◌<◌, ◌≤◌, ◌+◌, Bool, true, false, refl, sym, ap, subst, ◌∙◌, List, [], ◌∷◌, length, get_or, set, drop, replicate, arith, ◌==◌, if◌then◌else◌, length-set, get_or-set_same, get_or-set_other, eq-eqb, ne_eqb}
+use Rattle.std.proofs.Common.{◌≡◌, ℕ, ◌<◌, ◌≤◌, ◌+◌, true, false, refl, sym, ap, subst, ◌∙◌, List, [], ◌∷◌, length, get_or, set, drop, replicate, arith, ◌==◌, if◌then◌else◌, length-set, get_or-set_same, get_or-set_other}
 use Rattle.std.proofs.lemmas.Bool.Decides.{nat_tests}
 use Rattle.std.proofs.lemmas.List.{drop_all, get_or-replicate, length-replicate}
 use Rattle.std.proofs.lemmas.Option.{same_Some, slice_get-get_or}
 use native.Mathlib.Decide.{ℕ_discrete}
 use Rattle.mk_txn.specs.declared.Stamp.{Stamp}
-use Rattle.mk_txn.specs.declared.Value.{Value}
 use Rattle.mk_txn.specs.declared.ReadItem.{ReadItem}
 use Rattle.mk_txn.specs.declared.WriteItem.{WriteItem}
 use Rattle.mk_txn.specs.Stamps.{is_before, later_stamp}
 use Rattle.mk_txn.specs.Transactions.{Transaction}
-use Rattle.mk_txn.specs.LatestWrites.{after_write, after_writes}
+use Rattle.mk_txn.specs.LatestWrites.{after_writes}
 use Rattle.mk_txn.specs.Outcomes.{is_commit}
 use Rattle.mk_merge.specs.declared.Fated.{Fated}
 use Rattle.mk_merge.specs.Bases.{commits_in}

@@ -1,16 +1,16 @@
 -- What is kept of a base, put together from its list.
-use Rattle.std.proofs.Common.{◌≡◌, ℕ, ◌<◌, ◌≤◌, ◌+◌, Bool, true, false, refl, sym, ap, subst, ◌∙◌, List, [], ◌∷◌, ◌++◌, length, get_or, drop, append_assoc, max, not, arith, if◌then◌else◌}
+use Rattle.std.proofs.Common.{◌≡◌, ℕ, ◌<◌, ◌≤◌, ◌+◌, Bool, true, false, refl, sym, ap, subst, ◌∙◌, List, [], ◌∷◌, ◌++◌, length, get_or, drop, append_assoc, not, arith, if◌then◌else◌}
 use Rattle.std.proofs.lemmas.Bool.Decides.{nat_tests}
 use Rattle.std.proofs.lemmas.List.{append-nil, drop_all}
-use Rattle.mk_lists.specs.Among.{Each, Each-weaker, Each-append}
+use Rattle.mk_lists.specs.Among.{Each, Each-append}
 use Rattle.mk_txn.specs.declared.TxnId.{TxnId}
 use Rattle.mk_txn.specs.declared.Outcome.{Outcome}
-use Rattle.mk_txn.specs.MarkMaps.{MarkMap, IsMarkMap, mark_of, joined_marks, covers}
+use Rattle.mk_txn.specs.MarkMaps.{MarkMap, IsMarkMap, joined_marks, covers}
 use Rattle.mk_txn.specs.Transactions.{id_before}
 use Rattle.mk_txn.proofs.MarkLaws.{IsMarkMap-joined, mark_of-joined, MarkMap-from_marks}
 use Rattle.mk_trim.specs.KeptOutcomes.{KeptOutcomes, Outcomes, put_outcome, with_outcome, not_covered, covered_by, nothing_kept}
 use Rattle.mk_merge.specs.declared.Fated.{Fated}
-use Rattle.mk_merge.specs.Bases.{BaseState, IsBase, IsInIdOrder, fates_in, kept_of}
+use Rattle.mk_merge.specs.Bases.{IsInIdOrder, fates_in, kept_of}
 use Rattle.mk_merge.proofs.ListLaws.{drop-at}
 
 -- marks that join none are the marks

@@ -12,3 +12,4 @@ pub mod FateLaws
 pub mod StampLaws
 pub mod BaseLaws
 pub mod StandLaws
+pub mod Examples

@@ -1,14 +1,14 @@
 -- Transactions gathered, and put in order of their numbers.
-use Rattle.std.proofs.Common.{◌≡◌, ℕ, zero, suc, ◌<◌, ◌≤◌, ◌+◌, ◌-◌, ◌⊎◌, inl, inr, Bool, true, false, refl, sym, ap, subst, ◌∙◌, List, [], ◌∷◌, ◌++◌, length, get_or, map, drop, arith, append_assoc, if◌then◌else◌, Ordering, Less, Equal, Greater}
+use Rattle.std.proofs.Common.{◌≡◌, ℕ, zero, suc, ◌<◌, ◌+◌, ◌⊎◌, inl, inr, Bool, true, false, refl, sym, ap, subst, ◌∙◌, List, [], ◌∷◌, length, get_or, map, drop, arith, if◌then◌else◌, Ordering, Less, Equal, Greater}
 use Rattle.std.proofs.lemmas.Bool.{false≢true}
-use Rattle.std.proofs.lemmas.List.{append-nil, drop_all}
+use Rattle.std.proofs.lemmas.List.{drop_all}
 use Rattle.std.specs.Ordering.{is_lt, is_eq, match_ordering}
 use Rattle.std.specs.BTreeMap.{insert_entry}
 use Rattle.std.specs.Borrow.{Bor}
-use Rattle.mk_lists.specs.Among.{Among, Each, Each-weaker}
+use Rattle.mk_lists.specs.Among.{Among, Each}
 use Rattle.mk_txn.specs.declared.TxnId.{TxnId}
 use Rattle.mk_txn.specs.Transactions.{Transaction, AreCoherent, same_id, id_before, id_cmp}
-use Rattle.mk_txn.proofs.IdOrder.{id_before-itself, id_before-through, id_before-not_back, same_id-tells, same_id-itself, id_cmp-less, id_cmp-equal, id-from_neither}
+use Rattle.mk_txn.proofs.IdOrder.{id_before-itself, id_before-not_back, same_id-tells, same_id-itself, id_cmp-less, id_cmp-equal, id-from_neither}
 use Rattle.mk_merge.specs.Bases.{placed_by_id, in_id_order}
 use Rattle.mk_merge.proofs.ListLaws.{drop-at}
 

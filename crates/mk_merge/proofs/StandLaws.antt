@@ -17,3 +17,7 @@ stand-listed (promise ∷ promises) (state ∷ states) h = λ i. listed-is promi
 pub ok-each : {A E : Type 0} (r : Result A E) (P Q : A → Type 0) → ((a : A) → P a → Q a) → IfOk r P → IfOk r Q
 ok-each (Ok a) P Q f h = f a h
 ok-each (Err e) P Q f h = h
+
+pub stand-self : (promises : List (Promise BaseState)) → Stand BaseState (λ base other. base ≡ other) promises (map listed promises)
+stand-self [] = tt
+stand-self (promise ∷ promises) = (record { replica = refl; adopted = refl; base = refl; entries = refl; marks = refl }, stand-self promises)

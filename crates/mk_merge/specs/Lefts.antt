@@ -8,7 +8,7 @@ use Rattle.mk_txn.specs.Stamps.{is_before, later_stamp, zero_stamp}
 use Rattle.mk_txn.specs.Transactions.{Transaction}
 use Rattle.mk_txn.specs.LatestWrites.{VersionedValue, first_version, after_writes}
 use Rattle.mk_cell.specs.Cells.{CellState, CellView, settled_cell}
-use Rattle.mk_merge.specs.Bases.{BaseState, commits_in}
+use Rattle.mk_merge.specs.Bases.{BaseState}
 use Rattle.mk_merge.specs.Rebuilding.{rebuilt}
 
 -- the latest write of a key, and the greatest stamp of a read

@@ -9,6 +9,8 @@ mod merging;
 mod ordering;
 mod rebuilding;
 mod reporting;
+#[cfg(test)]
+mod tests;
 
 pub use keeping::Keeping;
 use mk_record::Entry;

@@ -1,5 +1,4 @@
-use Rattle.std.proofs.Common.{◌≡◌, ◌∙◌, ap, subst, sym}
-use Rattle.mk_merge.specs.declared.Fated.{Fated}
+use Rattle.std.proofs.Common.{◌∙◌, ap, subst, sym}
 use Rattle.mk_trim.specs.KeptOutcomes.{covered_by}
 use Rattle.mk_merge.specs.Bases.{IsInIdOrder}
 use Rattle.mk_merge.proofs.KeptLaws.{kept-begins}

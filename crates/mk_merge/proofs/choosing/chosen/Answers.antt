@@ -1,4 +1,4 @@
-use Rattle.std.proofs.Common.{◌≡◌, ap, sym, ◌∙◌}
+use Rattle.std.proofs.Common.{ap}
 use Rattle.mk_merge.proofs.ChoosingLaws.{chosen-both, states_of}
 use Rattle.mk_merge.proofs.choosing.chosen.Goals as goal
 

@@ -4,7 +4,7 @@ use Rattle.mk_lists.specs.Among.{AllDistinct}
 use Rattle.mk_txn.specs.Transactions.{Transaction}
 use Rattle.mk_quorum.specs.Sizes.{hint_of}
 use Rattle.mk_merge.specs.Bases.{BaseState, IsInIdOrder}
-use Rattle.mk_merge.specs.Merging.{settled_fate, ok_reports, taken, fate_by, reported_txns}
+use Rattle.mk_merge.specs.Merging.{settled_fate, ok_reports, fate_by, reported_txns}
 use Rattle.mk_merge.proofs.ChoosingLaws.{states_of}
 use Rattle.mk_merge.proofs.FateLaws.{nows}
 use Rattle.mk_merge.proofs.StampLaws.{stamps_of, stamps-now}
