@@ -1,6 +1,0 @@
-use Rattle.mk_agreement.proofs.IdentitySteps as laws
-use Rattle.mk_agreement.proofs.Readings as readings
-use Rattle.mk_agreement.proofs.stamps_name_attempts.Goals as goal
-
-pub returns : goal.returns
-returns c = record { ids_once = laws.ids_once; stamps_name = laws.stamps_name; reads_were_got = readings.reads_were_got }
