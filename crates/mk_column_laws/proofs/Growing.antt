@@ -71,7 +71,7 @@ answered_proposed r _ c = refl
 change_grows : (taught : Taught) (m : Moment) (next : ColumnState) (id : TxnId) (a b : AttemptState) → AttemptFacts taught m id a → AttemptChange m next id a b → AttemptGrows a b
 change_grows taught m next id a b f (EndsReading e) = subst (AttemptGrows a) (sym e) (record { same_id = refl; same_epoch = refl; same_replica = refl; same_unread = refl; txn = λ t k. k; stopped = λ k. k; proposed = λ o k. k; learned = λ o k. k; no_more = λ _. refl; votes = λ r v k. k })
 change_grows taught m next id a b f (Reads replica key answer w e) = subst (AttemptGrows a) (sym e) (record { same_id = refl; same_epoch = refl; same_replica = refl; same_unread = refl; txn = λ t k. k; stopped = λ k. k; proposed = λ o k. k; learned = λ o k. k; no_more = λ _. refl; votes = λ r v k. k })
-change_grows taught m next id a b f (Stamps client clock stamp writes reading c n e) = subst (AttemptGrows a) (sym e)
+change_grows taught m next id a b f (Stamps client clock stamp writes reading fit some c n e) = subst (AttemptGrows a) (sym e)
     (record { same_id = refl; same_epoch = refl; same_replica = refl; same_unread = refl; txn = λ t k. absurd (none_some a.txn t (f.unstamped reading) k); stopped = λ k. k; proposed = λ o k. k; learned = λ o k. k; no_more = λ _. refl; votes = λ r v k. k })
 change_grows taught m next id a b f (RulesFast o none is e l) = subst (AttemptGrows a) (sym e)
     (record { same_id = refl; same_epoch = refl; same_replica = refl; same_unread = refl; txn = λ t k. k; stopped = λ k. k; proposed = λ x k. k; learned = λ x k. absurd (none_some a.coord.learned x none k); no_more = λ _. refl; votes = λ r v k. k })
@@ -177,7 +177,7 @@ module _ (taught : Taught) (m next : Moment) (h : Facts taught m) (moves : Moves
       ((txn : Transaction) (epoch : ℕ) (state : ValidationState) → m.column.work ≡ Validating txn r epoch state → txn.id ≡ id → ⊥) →
       WorkMove m next m.column.work next.column.work → (txn : Transaction) (epoch : ℕ) (state : ValidationState) → next.column.work ≡ Validating txn r epoch state → txn.id ≡ id → ⊥
   still_rests r id e found rest (WorkRests idle) txn epoch state w own = cc (idle, w)
-  still_rests r id e found rest (WorkFetches x q key a there still reads home old new) txn epoch state w own = cc (new, w)
+  still_rests r id e found rest (WorkFetches x q key a there still reads there_key may home old new) txn epoch state w own = cc (new, w)
   still_rests r id e found rest (WorkFinishes q act left round old new stays) txn epoch state w own = cc (new, w)
   still_rests r id e found rest (WorkEnds t q x entry o left s round now old there last acts new) txn epoch state w own = cc (new, w)
   still_rests r id e found rest (WorkGoesOn t q ep s answer round old new stays) txn epoch state w own =

@@ -191,7 +191,7 @@ module _ (taught : Taught) (stays : StaysTaught taught) (m next : Moment) (h : F
         (record { own_id = k.own_id; unstamped = λ q. absurd (cc q); txn_id = k.txn_id; votes = k.votes; accepts = k.accepts; proposed = k.proposed; learned = k.learned })
     change_facts a b found k (Reads replica key answer w e) = subst (AttemptFacts taught next id) (sym e)
         (record { own_id = k.own_id; unstamped = k.unstamped; txn_id = k.txn_id; votes = k.votes; accepts = k.accepts; proposed = k.proposed; learned = k.learned })
-    change_facts a b found k (Stamps client clock stamp writes reading c n e) = subst (AttemptFacts taught next id) (sym e)
+    change_facts a b found k (Stamps client clock stamp writes reading fit some c n e) = subst (AttemptFacts taught next id) (sym e)
         (record { own_id = k.own_id; unstamped = λ q. absurd (cc q); txn_id = λ t q. ap (λ (x : Transaction). x.id) (sym (some_same _ t q)) ∙ k.own_id; votes = k.votes; accepts = k.accepts; proposed = k.proposed; learned = k.learned })
     change_facts a b found k (Stops e) = subst (AttemptFacts taught next id) (sym e)
         (record { own_id = k.own_id; unstamped = k.unstamped; txn_id = k.txn_id; votes = k.votes; accepts = k.accepts; proposed = k.proposed; learned = k.learned })

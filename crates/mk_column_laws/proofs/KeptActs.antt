@@ -456,7 +456,7 @@ module _ (taught : Taught) (m next : Moment) (h : Facts taught m) (moves : Moves
 
   from_idle : (old new : Work) → old ≡ Idle → WorkMove m next old new → WorkActs next new
   from_idle old new idle (WorkRests e) = subst (WorkActs next) (sym e) tt
-  from_idle old new idle (WorkFetches id r key a found still reads home e n) = subst (WorkActs next) (sym n) tt
+  from_idle old new idle (WorkFetches id r key a found still reads there_key may home e n) = subst (WorkActs next) (sym n) tt
   from_idle old new idle (WorkValidates txn r epoch served same round lt e none there n) = subst (WorkActs next) (sym n) (begun_acts txn r epoch)
   from_idle old new idle (WorkGoesOn txn r epoch state answer round e n stay) = absurd (cc (idle, e))
   from_idle old new idle (WorkFinishes r act left round e n stay) = absurd (cc (idle, e))

@@ -264,7 +264,7 @@ module _ (taught : Taught) (stays : StaysTaught taught) (m next : Moment) (h : F
 
   work_facts : (old new : Work) → m.column.work ≡ old → WorkMove m next old new → WorkFacts next new
   work_facts old new is (WorkRests e) = subst (WorkFacts next) (sym e) tt
-  work_facts old new is (WorkFetches id replica key a found still reads home e k) = subst (WorkFacts next) (sym k) tt
+  work_facts old new is (WorkFetches id replica key a found still reads there_key may home e k) = subst (WorkFacts next) (sym k) tt
   work_facts old new is (WorkFinishes r act left round e k entries) = subst (WorkFacts next) (sym k) tt
   work_facts old new is (WorkEnds txn r id entry o left s round now e there last acts k) = subst (WorkFacts next) (sym k) tt
   work_facts old new is (WorkValidates txn r epoch served same round lt e none there k) =

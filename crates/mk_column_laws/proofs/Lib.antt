@@ -29,4 +29,5 @@ pub mod IdentitySteps
 pub mod ActStamps
 pub mod OrderedActs
 pub mod Readings
+pub mod Itemed
 mod FirstRound

@@ -147,7 +147,7 @@ module _ (taught : Taught) (m next : Moment) (h : Facts taught m) (moves : Moves
   change_reads id a b found there (EndsReading e) = quiet_reads id a found b there (ap (λ (x : AttemptState). x.unread) e) (ap (λ (x : AttemptState). x.replica) e) (ap (λ (x : AttemptState). x.epoch) e) (ap (λ (x : AttemptState). x.reads) e)
       (λ r. absurd (let q : b.reading ≡ false = ap (λ (x : AttemptState). x.reading) e in cc (q, r))) (λ t q. (f.attempts id a found).txn_reads t (sym (ap (λ (x : AttemptState). x.txn) e) ∙ q))
   change_reads id a b found there (Reads replica key answer w e) = new_reads id a found replica key b there w
-  change_reads id a b found there (Stamps client clock stamp writes reading c n e) = quiet_reads id a found b there (ap (λ (x : AttemptState). x.unread) e) (ap (λ (x : AttemptState). x.replica) e) (ap (λ (x : AttemptState). x.epoch) e) (ap (λ (x : AttemptState). x.reads) e)
+  change_reads id a b found there (Stamps client clock stamp writes reading fit some c n e) = quiet_reads id a found b there (ap (λ (x : AttemptState). x.unread) e) (ap (λ (x : AttemptState). x.replica) e) (ap (λ (x : AttemptState). x.epoch) e) (ap (λ (x : AttemptState). x.reads) e)
       (λ r. reading) (λ t q. ap (λ (x : Transaction). x.reads) (some_same t (stamped_txn a stamp writes) (sym q ∙ ap (λ (x : AttemptState). x.txn) e)))
   change_reads id a b found there (RulesFast o none is e l) = quiet_reads id a found b there (ap (λ (x : AttemptState). x.unread) e) (ap (λ (x : AttemptState). x.replica) e) (ap (λ (x : AttemptState). x.epoch) e) (ap (λ (x : AttemptState). x.reads) e)
       (λ r. sym (ap (λ (x : AttemptState). x.reading) e) ∙ r) (λ t q. (f.attempts id a found).txn_reads t (sym (ap (λ (x : AttemptState). x.txn) e) ∙ q))
@@ -195,7 +195,7 @@ module _ (taught : Taught) (m next : Moment) (h : Facts taught m) (moves : Moves
   fetch_facts o n (WorkGoesOn txn r epoch state answer round e w stay) = subst (FetchFacts next) (sym w) tt
   fetch_facts o n (WorkFinishes r act left round e w stay) = subst (FetchFacts next) (sym w) tt
   fetch_facts o n (WorkEnds txn r id entry outcome left s round q e there last acts w) = subst (FetchFacts next) (sym w) tt
-  fetch_facts o n (WorkFetches id r key a found still reads home e w) = subst (FetchFacts next) (sym w) (a, still, reads, home)
+  fetch_facts o n (WorkFetches id r key a found still reads there_key may home e w) = subst (FetchFacts next) (sym w) (a, still, reads, home)
 
   pub reads_kept : ReadFacts next
   reads_kept =

@@ -1,5 +1,5 @@
 -- What each step does to the attempts.
-use Rattle.std.proofs.Common.{◌≡◌, ◌∙◌, ℕ, Bool, true, false, refl, arith, inl, ◌*◌, add-one, sym, ap, subst, List, [], ◌∷◌, ◌++◌, Option, Some, None, not, ◌||◌, ◌⊎◌, inr}
+use Rattle.std.proofs.Common.{◌≡◌, ◌∙◌, ℕ, Bool, true, false, refl, arith, inl, ◌*◌, add-one, sym, ap, subst, List, [], ◌∷◌, ◌++◌, Option, Some, None, not, ◌||◌, ◌⊎◌, inr, ◌+◌, length, nat_lt}
 use Rattle.std.specs.Prelude.{option_map, find, is_some, is_none, ◌==◌, ◌-◌, nat_le, slice_get, if◌then◌else◌}
 use Rattle.std.proofs.lemmas.Bool.Decides.{nat_tests}
 use Rattle.mk_lists.specs.Among.{Among, Among-append_right}
@@ -25,7 +25,7 @@ use Rattle.mk_column.specs.declared.Step.{Step}
 use Rattle.mk_column.specs.declared.Step.TheVariants.{Begin, Unread, Read, Stamp, Validate, Take, Key, Rule, Again, Takeover, Pick as PickStep, Stop}
 use Rattle.mk_column.specs.ColumnState.{ColumnState, AttemptState, ClientState, Work, attempt_of, takeover_of, client_of, is_attempt, to_all, Learning}
 use Rattle.mk_column.specs.ColumnState.Work.{Idle, Fetching, Validating, Finishing}
-use Rattle.mk_column.specs.Conditions.{conditions, serves_from, heard_by}
+use Rattle.mk_column.specs.Conditions.{conditions, serves_from, heard_by, writes_fit}
 use Rattle.mk_column.specs.Answers.{attempt_answered, listens, is_led}
 use Rattle.mk_column.specs.Steps.{stepped, new_attempt, unread_attempt, next_id, epoch_of, stamped, with_txn, with_read, ruled, picked, proposing, taught, taken, replica_takes, answered, validated}
 use Rattle.mk_column.specs.Learnings.{txn_of, learning, by_rule, by_ruling, learned_in_step}
@@ -106,13 +106,13 @@ module _ (m : Moment) (step : Step) where
       by None e true t = AttemptBegins new e (find-pushed (is_attempt other) m.column.attempts new e t) (same_id-tells new.id other t) coord none reads home
       by None e false t = AttemptStays (find-push_other (is_attempt other) m.column.attempts new t)
 
-  stamping_sorted : (a : AttemptState) (clock : ℕ) (writes : List WriteItem) (c : ClientState) (s : Option StampType) → attempt_of m.column a.id ≡ Some a → a.reading ≡ true →
-      client_of m.column a.id.client ≡ Some c → next_stamp_of c.number c.last_time clock a.reads ≡ s → AttemptsSorted (stamped a.id writes s m.column)
-  stamping_sorted a clock writes c None e reading client is = (λ x. AttemptStays refl)
-  stamping_sorted a clock writes c (Some stamp) e reading client is =
+  stamping_sorted : (a : AttemptState) (clock : ℕ) (writes : List WriteItem) (c : ClientState) (s : Option StampType) → attempt_of m.column a.id ≡ Some a → a.reading ≡ true → writes_fit m.round.keys writes ≡ true →
+      nat_lt 0 (length a.reads + length writes) ≡ true → client_of m.column a.id.client ≡ Some c → next_stamp_of c.number c.last_time clock a.reads ≡ s → AttemptsSorted (stamped a.id writes s m.column)
+  stamping_sorted a clock writes c None e reading fit some client is = (λ x. AttemptStays refl)
+  stamping_sorted a clock writes c (Some stamp) e reading fit some client is =
       attempts_changed (with_learned (stamped a.id writes (Some stamp) m.column)) a.id (with_txn stamp writes) (λ _. refl)
       (λ b k. subst (λ (x : AttemptState). AttemptChange m (with_learned (stamped a.id writes (Some stamp) m.column)) a.id x (with_txn stamp writes x)) (some_same a b (sym e ∙ k))
-      (Stamps c clock stamp writes reading client is refl))
+      (Stamps c clock stamp writes reading fit some client is refl))
 
   ruled_sorted : (a : AttemptState) (r : Ruling) → attempt_of m.column a.id ≡ Some a → a.coord.learned ≡ None → ruling m.round.faults a.coord ≡ r →
       ((o : Outcome) → r ≡ Fast o → Among (learning a.id ByVotes o) (m.column.learned ++ learned_in_step m.round m.column step)) → AttemptsSorted (ruled m.round.faults a r m.column)
@@ -191,7 +191,8 @@ module _ (m : Moment) where
       on_some-keeps (AttemptsSorted m step) _ (attempt_of m.column id) m.column
       (λ a e. on_some-keeps (AttemptsSorted m step) _ (client_of m.column a.id.client) m.column
       (λ d k. stamping_sorted m step a clock writes d (next_stamp_of d.number d.last_time clock a.reads) (own_number m.column id a e)
-      (there (λ (x : AttemptState). x.reading) (attempt_of m.column id) a e c.1.0) k refl) (λ x. AttemptStays refl)) (λ x. AttemptStays refl)
+      (there (λ (x : AttemptState). x.reading) (attempt_of m.column id) a e c.1.0) c.1.1.0
+      (there (λ (x : AttemptState). nat_lt 0 (length x.reads + length writes)) (attempt_of m.column id) a e c.1.1.1.1.0) k refl) (λ x. AttemptStays refl)) (λ x. AttemptStays refl)
   attempts_sorted (Validate id) c =
       let step = Validate id in
       on_some-keeps (AttemptsSorted m step) _ (attempt_of m.column id) m.column (λ a _. (λ x. AttemptStays refl)) (λ x. AttemptStays refl)

@@ -33,7 +33,7 @@ use Rattle.mk_column.specs.declared.Step.TheVariants.{Begin, Unread, Read, Stamp
 use Rattle.mk_column.specs.ColumnState.{ColumnState, AttemptState, TakeoverOf, Work, Learning, attempt_of, takeover_of, client_of, is_attempt, is_takeover, to_all, numbers_from, mark_sent, send}
 use Rattle.mk_column.specs.ColumnState.Work.{Idle, Fetching, Validating, Finishing}
 use Rattle.mk_column.specs.ColumnState.Way.{ByVotes}
-use Rattle.mk_column.specs.Conditions.{conditions, is_idle, is_validate_of}
+use Rattle.mk_column.specs.Conditions.{conditions, is_idle, is_validate_of, may_read}
 use Rattle.mk_column.specs.Replicas.{finishing}
 use Rattle.mk_column.specs.Answers.{listens, is_led}
 use Rattle.mk_column.specs.Learnings.{learning, txn_of, by_rule, by_ruling, learned_in_step}
@@ -261,7 +261,8 @@ module _ (taught : Taught) (m : Moment) (h : Facts taught m) where
   steps_sorted (Read id key) c =
       let step = Read id key in
       on_some-keeps (StepSorted taught m h step) _ (attempt_of m.column id) m.column
-      (λ a e. untouched taught m h step _ refl refl (WorkFetches id a.replica key a e e (there (λ (x : AttemptState). x.reading) (attempt_of m.column id) a e c.1.0) refl (idle_from m.column.work c.0) refl)) (stays taught m h step (idle_from m.column.work c.0))
+      (λ a e. untouched taught m h step _ refl refl (WorkFetches id a.replica key a e e (there (λ (x : AttemptState). x.reading) (attempt_of m.column id) a e c.1.0) c.1.1.0
+      (there (may_read key) (attempt_of m.column id) a e c.1.1.1.0) refl (idle_from m.column.work c.0) refl)) (stays taught m h step (idle_from m.column.work c.0))
   steps_sorted (Stamp id clock writes) c =
       let step = Stamp id clock writes in
       on_some-keeps (StepSorted taught m h step) _ (attempt_of m.column id) m.column

@@ -7,5 +7,6 @@ pub mod KeyActs
 pub mod Laws
 pub mod ActLaws
 pub mod Reading
+pub mod Items
 pub mod Identity
 pub mod FirstEpoch

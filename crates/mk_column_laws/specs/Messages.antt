@@ -1,14 +1,11 @@
 -- What is told by the messages that were sent, whatever their order.
 use Rattle.std.specs.Prelude.{◌≡◌, ℕ, ◌<◌, List, [], Option, Some, None}
-use Rattle.mk_lists.specs.Among.{Among}
 use Rattle.mk_txn.specs.declared.TxnId.{TxnId}
 use Rattle.mk_txn.specs.declared.Vote.{Vote}
 use Rattle.mk_txn.specs.declared.Accepted.{Accepted}
-use Rattle.mk_txn.specs.declared.Outcome.{Outcome}
 use Rattle.mk_msg.specs.declared.Told.{Told}
 use Rattle.mk_msg.specs.declared.Msg.{Msg}
-use Rattle.mk_msg.specs.declared.Body.{Body}
-use Rattle.mk_msg.specs.declared.Body.TheVariants.{Voted, Accept, Told as ToldBody}
+use Rattle.mk_msg.specs.declared.Body.TheVariants.{Voted, Told as ToldBody}
 use Rattle.mk_quorum.specs.Slots.{slot}
 use Rattle.mk_takeover.specs.Picks.{TakeoverState}
 use Rattle.mk_column.specs.Sending.{Sent}

@@ -1,5 +1,5 @@
 -- What an event does: to each attempt, takeover and entry, to the messages, the key calls under way, and what is learned.
-use Rattle.std.specs.Prelude.{◌≡◌, ◌⊎◌, ◌<◌, ◌≤◌, ℕ, true, false, List, Option, Some, None, is_some, option_map, slice_get, ◌∷◌, []}
+use Rattle.std.specs.Prelude.{◌≡◌, ◌⊎◌, ◌<◌, ◌≤◌, ℕ, true, false, List, Option, Some, None, is_some, option_map, slice_get, ◌∷◌, [], length, nat_lt, ◌+◌}
 use Rattle.mk_lists.specs.Among.{Among}
 use Rattle.mk_txn.specs.declared.TxnId.{TxnId}
 use Rattle.mk_txn.specs.declared.Stamp.{Stamp}
@@ -33,6 +33,7 @@ use Rattle.mk_column.specs.Replicas.{serves, is_serving, told_of}
 use Rattle.mk_column.specs.Answers.{attempt_answered, takeover_answered, moved_outcome}
 use Rattle.mk_column.specs.Learnings.{learning}
 use Rattle.mk_column.specs.Steps.{with_txn, with_read, proposing, taught as having_learned, closing, takeover_proposing}
+use Rattle.mk_column.specs.Conditions.{writes_fit, may_read}
 use Rattle.mk_column.specs.Logs.{not_reading}
 use Rattle.mk_column_laws.specs.Moments.{Moment, PastEntry}
 use Rattle.mk_column.specs.Sending.{Sent, Proposed}
@@ -43,7 +44,8 @@ use Rattle.mk_column.specs.Sending.{Sent, Proposed}
 pub data AttemptChange (m : Moment) (next : ColumnState) (id : TxnId) (a b : AttemptState) : Type 0 where
   EndsReading : b ≡ not_reading a → AttemptChange m next id a b
   Reads : (replica key : ℕ) (answer : Answer) → m.column.work ≡ Fetching id replica key → b ≡ with_read key answer a → AttemptChange m next id a b
-  Stamps : (client : ClientState) (clock : ℕ) (stamp : Stamp) (writes : List WriteItem) → a.reading ≡ true →
+  Stamps : (client : ClientState) (clock : ℕ) (stamp : Stamp) (writes : List WriteItem) → a.reading ≡ true → writes_fit m.round.keys writes ≡ true →
+      nat_lt 0 (length a.reads + length writes) ≡ true →
       client_of m.column a.id.client ≡ Some client → next_stamp_of client.number client.last_time clock a.reads ≡ Some stamp →
       b ≡ with_txn stamp writes a → AttemptChange m next id a b
   RulesFast : (outcome : Outcome) → a.coord.learned ≡ None → ruling m.round.faults a.coord ≡ Fast outcome → b ≡ having_learned outcome a →
@@ -192,7 +194,8 @@ pub data NewLearning (m next : Moment) (l : Learning) : Type 0 where
 -- the key calls under way are none, or begin, or go on
 pub data WorkMove (m next : Moment) (old new : Work) : Type 0 where
   WorkRests : new ≡ Idle → WorkMove m next old new
-  WorkFetches : (id : TxnId) (replica key : ℕ) (a : AttemptState) → attempt_of m.column id ≡ Some a → attempt_of next.column id ≡ Some a → a.reading ≡ true → a.replica ≡ replica → old ≡ Idle → new ≡ Fetching id replica key → WorkMove m next old new
+  WorkFetches : (id : TxnId) (replica key : ℕ) (a : AttemptState) → attempt_of m.column id ≡ Some a → attempt_of next.column id ≡ Some a → a.reading ≡ true → nat_lt key m.round.keys ≡ true →
+      may_read key a ≡ true → a.replica ≡ replica → old ≡ Idle → new ≡ Fetching id replica key → WorkMove m next old new
   WorkValidates : (txn : Transaction) (r epoch : ℕ) (served : ServesAttempt m r txn.id txn) → served.attempt.epoch ≡ epoch → next.round ≡ m.round → r < members m.round.faults → old ≡ Idle →
       m.past.entries r txn.id ≡ None → next.past.entries r txn.id ≡ Some (past_opened txn) →
       new ≡ Validating txn r epoch (validation_of txn) → WorkMove m next old new

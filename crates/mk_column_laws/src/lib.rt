@@ -4,6 +4,7 @@
 ghost use Rattle.mk_column_laws.specs.Laws.{MovedIsLater, RecordsKept, RecordIsPast, CountsBacked, EventsMove, ColumnsGrow, FactsHold, EntriesChangeWhereServed, RecordsMatch, MessagesAreOf, AcceptIsProposal, OneProposal, VotedTrue, AcceptedTrue, ToldTrue, MovedTrue, AcceptedWasProposed, FinalWasSent, OwnGrounds, FastGrounds, TakeoverGrounds, ViewsAgree, FastForbids, OneDecision, CommitSupport, LearnedBacked, BackingStays};
 ghost use Rattle.mk_column_laws.specs.ActLaws.{ActsHold, ActsHaveOrigin, ChecksOfOk, RefusalOfAbort, ReleasesOfOk, StampReleased, CommitsOfFinal, ChecksOfStamp, NoCheckAfterCommit};
 ghost use Rattle.mk_column_laws.specs.Reading.{ReadsWereGot};
+ghost use Rattle.mk_column_laws.specs.Items.{ItemsFit};
 ghost use Rattle.mk_column_laws.specs.Identity.{IdsOnce, StampsName};
 ghost use Rattle.mk_column_laws.specs.FirstEpoch.{OneDecisionInFirstEpoch, LearningsAreDecided, LearningsAgree};
 
@@ -18,11 +19,13 @@ pub fn events_are_sorted()
     ensures record_is_past { RecordIsPast }
 {}
 
-/// Attempts are numbered, stamps rise, and a stamp names its attempt.
+/// Attempts are numbered, stamps rise, and a stamp names its attempt; what was read was got, and transactions are of keys
+/// that there are.
 pub fn stamps_name_attempts()
     ensures ids_once { IdsOnce }
     ensures stamps_name { StampsName }
     ensures reads_were_got { ReadsWereGot }
+    ensures items_fit { ItemsFit }
 {}
 
 /// What each message says for ever.
