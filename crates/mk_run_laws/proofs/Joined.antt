@@ -17,7 +17,7 @@ use Rattle.mk_history.specs.declared.RoundLog.{RoundLog}
 use Rattle.mk_history.specs.Histories.{History, clients_of, log_of}
 use Rattle.mk_history.specs.Wholes.{WholeState, first_state, setting_of, column_of, columns_after_logs, after_logs, after_line, after_global, globals_through, after_round, state_through}
 use Rattle.mk_run_laws.specs.RunEvents.{emptied_by, emptied_in, events_from, events_of, start_of, moment_of}
-use Rattle.mk_run_laws.specs.RunLaws.{RoundsJoin}
+use Rattle.mk_run_laws.specs.RunLaws.{RoundsJoin, LinesReset}
 
 -- ---- lists
 
@@ -182,15 +182,15 @@ module _ (run : History) (c : ℕ) where
   join_from : (done : List RoundLog) (round : RoundLog) (state : WholeState) (emptied : List ℕ) (m : Moment) → HasSetting run m → Begun state c emptied m →
       (let late = state_through run state done in
       let n = moment_through m (events_from c run state emptied (done ++ round ∷ [])) in
-      (n.column ≡ column_of (after_logs run round late) c) × (n.round ≡ setting_of run late) × (n.past.now ≡ m.past.now + length done + 1))
+      HasColumn (after_logs run round late) c n.column × (n.round ≡ setting_of run late) × (n.past.now ≡ m.past.now + length done + 1))
   join_from [] round state emptied m h e =
       let log = log_of round c in
       let column = reading_ended (replicas_reset emptied m.column) in
       let same = moment_through-append (begins state emptied m) (map Doing log) [] in
-      let has = has_column (after_logs run round state) c (column_through (setting_of run state) column log) (column_after_logs run round state c column e) in
+      let has = column_after_logs run round state c column e in
       let now = now_works c state emptied round m in
       (
-        ap (λ (n : Moment). n.column) same ∙ column_works run c state emptied round m h ∙ sym has,
+        has ∙ ap (λ (col : ColumnState). Some col) (sym (ap (λ (n : Moment). n.column) same ∙ column_works run c state emptied round m h)),
         ap (λ (n : Moment). n.round) same ∙ setting_works run c state emptied round m h,
         ap (λ (n : Moment). n.past.now) same ∙ now ∙ omega arith,
       )
@@ -202,7 +202,7 @@ module _ (run : History) (c : ℕ) where
       let now = now_works c state emptied first m in
       let count = k.2 in
       (
-        ap (λ (n : Moment). n.column) same ∙ k.0,
+        k.0 ∙ ap (λ (n : Moment). Some n.column) (sym same),
         ap (λ (n : Moment). n.round) same ∙ k.1,
         ap (λ (n : Moment). n.past.now) same ∙ count ∙ (omega (arith, now)),
       )
@@ -213,4 +213,12 @@ setting_first run c = record { version = refl; faults = refl; keys = refl }
 pub rounds_join : RoundsJoin
 rounds_join run c lt done round =
     let k = join_from run c done round (first_state run) [] (start_of run c) (setting_first run c) (column_first run c lt) in
-    (k.0, k.1, k.2 ∙ omega arith)
+    let late = state_through run (first_state run) done in
+    (sym (has_column (after_logs run round late) c (moment_of run c (done ++ round ∷ [])).column k.0), k.1, k.2 ∙ omega arith)
+
+pub lines_reset : LinesReset
+lines_reset run c lt done round lines =
+    let k = join_from run c done round (first_state run) [] (start_of run c) (setting_first run c) (column_first run c lt) in
+    let logs = after_logs run round (state_through run (first_state run) done) in
+    let column = (moment_of run c (done ++ round ∷ [])).column in
+    has_column (globals_through run logs lines) c (replicas_reset (emptied_in lines) column) (column_through_globals run lines logs c column k.0)
