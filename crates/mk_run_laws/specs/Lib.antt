@@ -1,0 +1,4 @@
+-- What is so of legal runs, lowest first.
+pub mod RunEvents
+pub mod TaughtIn
+pub mod RunLaws

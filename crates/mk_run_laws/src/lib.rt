@@ -1,0 +1,40 @@
+//! The laws that join the columns of a run with its global lines.
+//!
+//! The functions do nothing: what they promise is the law. Where one calls another, its law rests on the other's.
+#![tactic(auto)]
+
+ghost use Rattle.mk_run_laws.specs.RunLaws.{RoundsJoin, LinesReset, LinesAreTurns, TeachingStays, TaughtMeans, RunsReachMoments, FactsInRuns, ActsInRuns, ReadsInRuns, OneDecisionInRuns, LearnedInRuns, IdsInRuns};
+
+/// A run is a list of events for each column, and a list of turns for its epoch changes.
+pub fn rounds_join()
+    ensures rounds_join { RoundsJoin }
+    ensures lines_reset { LinesReset }
+    ensures lines_are_turns { LinesAreTurns }
+{}
+
+/// Every moment of a column of a legal run is one that the laws of columns are about.
+pub fn runs_reach_moments()
+    ensures teaching_stays { TeachingStays }
+    ensures taught_means { TaughtMeans }
+    ensures runs_reach_moments { RunsReachMoments }
+{
+    mk_epoch_laws::words_hold();
+    mk_epoch_laws::bases_hold();
+}
+
+/// So the laws of columns hold of every column of a legal run.
+pub fn columns_hold()
+    ensures facts { FactsInRuns }
+    ensures acts { ActsInRuns }
+    ensures reads { ReadsInRuns }
+    ensures one_decision { OneDecisionInRuns }
+    ensures learned { LearnedInRuns }
+    ensures ids { IdsInRuns }
+{
+    runs_reach_moments();
+    mk_agreement::events_are_sorted();
+    mk_agreement::key_acts_have_origins();
+    mk_agreement::stamps_name_attempts();
+    mk_agreement::views_agree();
+    mk_agreement::learnings_are_backed();
+}
