@@ -32,8 +32,8 @@ use Rattle.mk_epoch_laws.specs.Turns.{GlobalTurn, Always, AlwaysLater, EachAnswe
 use Rattle.mk_epoch_laws.specs.WordLaws.{IsAt, PhaseFits, PhaseAndWord}
 use Rattle.mk_epoch_laws.specs.BaseLaws.{BasesHeld, BasesStay, ServingWasEntered}
 use Rattle.mk_merge_laws.proofs.ListLaws.{both_true, eqb-tells, eqb-same, find-some, some_same}
-use Rattle.mk_agreement.specs.Moments.{Moment, Event, StaysTaught, IsRound, EachHappens, IsReached, after_event, moment_through, step_done, past_begun, has_number, replicas_reset}
-use Rattle.mk_agreement.specs.Moments.Event.{NewRound, Doing}
+use Rattle.mk_column_laws.specs.Moments.{Moment, Event, StaysTaught, IsRound, EachHappens, IsReached, after_event, moment_through, step_done, past_begun, has_number, replicas_reset}
+use Rattle.mk_column_laws.specs.Moments.Event.{NewRound, Doing}
 use Rattle.mk_history.specs.declared.RoundLog.{RoundLog}
 use Rattle.mk_history.specs.Histories.{History, clients_of, log_of}
 use Rattle.mk_history.specs.Legality.{IsLegal, IsLegalRound, EachRoundLegal}
@@ -201,7 +201,7 @@ module _ (run : History) (legal : IsLegal run) (c : ℕ) (lt : c < run.columns)
         let split_turns : turns_of run run.rounds ≡ turns ++ more = ap (turns_of run) split ∙ all in
         let answered_more = answered-later (first_epochs run.faults) turns more (subst (EachAnswered (first_epochs run.faults)) split_turns whole.0) in
         let late : after_turns early more ≡ (last_state run).epochs =
-            sym (after_turns-append (first_epochs run.faults) turns more) ∙ ap (after_turns (first_epochs run.faults)) (sym split_turns) ∙ whole.1 in
+        sym (after_turns-append (first_epochs run.faults) turns more) ∙ ap (after_turns (first_epochs run.faults)) (sym split_turns) ∙ whole.1 in
         let stays = (stay run.faults turns more answered answered_more found.0 found.1).0 in
         let there = subst (λ (s : EpochState). Among found.0 s.made) late stays in
         let was = entered_then (entered run.faults turns answered r x here serving) in
@@ -285,13 +285,13 @@ module _ (run : History) (legal : IsLegal run) (c : ℕ) (lt : c < run.columns)
         setting = keeps_setting run c state emptied round m h.setting;
         begun = next_begun run c state emptied round m h.setting h.begun;
         idle =
-          ap (λ (col : ColumnState). col.work) (column_works run c state emptied round m h.setting)
-          ∙ ap (λ (col : ColumnState). (column_through (setting_of run state) col log).work) (sym here)
-          ∙ (fine.logs c lt).finished;
+            ap (λ (col : ColumnState). col.work) (column_works run c state emptied round m h.setting)
+            ∙ ap (λ (col : ColumnState). (column_through (setting_of run state) col log).work) (sym here)
+            ∙ (fine.logs c lt).finished;
         now = now_works c state emptied round m ∙ ap (λ (n : ℕ). n + 1) h.now ∙ sym (length-one before round);
         stands = λ r e is.
             let k = lines_stand run round.globals (after_logs run round state) fine.globals e r (first.past.has_left r e)
-                (stands_begun before (round ∷ rest) split state emptied m h r e (ap (λ (f : ℕ → ℕ → Bool). f r e) (sym ever) ∙ is)) in
+            (stands_begun before (round ∷ rest) split state emptied m h r e (ap (λ (f : ℕ → ℕ → Bool). f r e) (sym ever) ∙ is)) in
             (k.0, k.1, subst (λ (b : Bool). Stands e (b || has_number (emptied_in round.globals) r) k.0) (ap (λ (f : ℕ → ℕ → Bool). f r e) (sym left)) k.2);
         served = λ r e is.
             ap (λ (f : ℕ → ℕ → Bool). f r e) ever
@@ -307,14 +307,13 @@ module _ (run : History) (legal : IsLegal run) (c : ℕ) (lt : c < run.columns)
       let next = works c state emptied round m in
       let here = has_column state c (reading_ended (replicas_reset emptied m.column)) h.begun in
       let enabled = subst (λ (col : ColumnState). EachEnabled (setting_of run state) col log) here ((fine.0).logs c lt).enabled in
-      let enabled_here = subst (λ (s : Setting). EachEnabled s first.column log) (sym (setting_begun run state emptied m h.setting)) enabled in
-      (
+      let enabled_here = subst (λ (s : Setting). EachEnabled s first.column log) (sym (setting_begun run state emptied m h.setting)) enabled in (
         is_round before (round ∷ rest) split state emptied m h,
         happens-join run first (map Doing log) (events_from c run (after_round run round state) (emptied_in round.globals) rest) (log_happens run first log enabled_here)
-        (
-          happens_from (before ++ round ∷ []) rest (split ∙ append-one before round rest) (after_round run round state) (emptied_in round.globals) next fine.1
-          (next_before before round rest split state emptied m fine.0 h)
-        ),
+            (
+            happens_from (before ++ round ∷ []) rest (split ∙ append-one before round rest) (after_round run round state) (emptied_in round.globals) next fine.1
+            (next_before before round rest split state emptied m fine.0 h)
+            ),
       )
 
   happens_all : EachHappens (taught_in run) (start_of run c) (events_of run c run.rounds)

@@ -14,7 +14,7 @@ use Rattle.mk_epoch.specs.EpochState.{EpochState, ReplicaState, was_asked, made_
 use Rattle.mk_epoch.specs.GlobalAnswers.{global_answer, promise_answer, adopt_answer, is_too_old, lacks, is_accepted}
 use Rattle.mk_epoch.specs.GlobalSteps.{HandedIn, IsAnswer, global_after, change_replica, wiped, promised, with_promise, with_base, adopting, base_or_empty, serving, is_adopted, with_adoption, awaits_enter}
 use Rattle.mk_merge_laws.proofs.ListLaws.{same_or_not, eqb-same, both_true, slice_get-set_same, slice_get-set_other, slice_get-change, slice_get-changed, some_same}
-use Rattle.mk_agreement.specs.Moments.{has_number}
+use Rattle.mk_column_laws.specs.Moments.{has_number}
 use Rattle.mk_history.specs.Histories.{History}
 use Rattle.mk_history.specs.Legality.{EachGlobalAnswered}
 use Rattle.mk_history.specs.Wholes.{WholeState, after_global, globals_through, after_line, handed_in}

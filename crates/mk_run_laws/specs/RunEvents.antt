@@ -3,8 +3,8 @@ use Rattle.std.specs.Prelude.{◌≡◌, ℕ, List, [], ◌∷◌, ◌++◌, len
 use Rattle.mk_global.specs.declared.GlobalEntry.{GlobalEntry}
 use Rattle.mk_global.specs.declared.GlobalLine.{GlobalLine}
 use Rattle.mk_global.specs.declared.GlobalLine.TheVariants.{Wipe, Ask, Promise, Merge, Adopt, Enter}
-use Rattle.mk_agreement.specs.Moments.{Moment, Event, first_moment, moment_through}
-use Rattle.mk_agreement.specs.Moments.Event.{NewRound, Doing}
+use Rattle.mk_column_laws.specs.Moments.{Moment, Event, first_moment, moment_through}
+use Rattle.mk_column_laws.specs.Moments.Event.{NewRound, Doing}
 use Rattle.mk_epoch.specs.EpochState.{views_of}
 use Rattle.mk_epoch.specs.GlobalAnswers.{is_accepted}
 use Rattle.mk_epoch_laws.specs.Turns.{GlobalTurn}

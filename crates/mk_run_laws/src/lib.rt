@@ -32,9 +32,9 @@ pub fn columns_hold()
     ensures ids { IdsInRuns }
 {
     runs_reach_moments();
-    mk_agreement::events_are_sorted();
-    mk_agreement::key_acts_have_origins();
-    mk_agreement::stamps_name_attempts();
-    mk_agreement::views_agree();
-    mk_agreement::learnings_are_backed();
+    mk_column_laws::events_are_sorted();
+    mk_column_laws::key_acts_have_origins();
+    mk_column_laws::stamps_name_attempts();
+    mk_column_laws::views_agree();
+    mk_column_laws::learnings_are_backed();
 }

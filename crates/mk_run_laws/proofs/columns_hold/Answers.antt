@@ -4,13 +4,13 @@ use Rattle.mk_txn.specs.declared.TxnId.{TxnId}
 use Rattle.mk_txn.specs.declared.Outcome.{Outcome}
 use Rattle.mk_txn.specs.Outcomes.{agrees}
 use Rattle.mk_column.specs.Deciding.{IsDecided}
-use Rattle.mk_agreement.specs.Facts.{Facts}
-use Rattle.mk_agreement.specs.KeyActs.{ActFacts}
-use Rattle.mk_agreement.specs.Reading.{ReadFacts}
-use Rattle.mk_agreement.specs.Identity.{Identity}
-use Rattle.mk_agreement.specs.Laws.{BackingOf}
-use Rattle.mk_agreement.specs.Moments.{Taught, Moment}
-use Rattle.mk_agreement.specs.Laws.{AlwaysHolds}
+use Rattle.mk_column_laws.specs.Facts.{Facts}
+use Rattle.mk_column_laws.specs.KeyActs.{ActFacts}
+use Rattle.mk_column_laws.specs.Reading.{ReadFacts}
+use Rattle.mk_column_laws.specs.Identity.{Identity}
+use Rattle.mk_column_laws.specs.Laws.{BackingOf}
+use Rattle.mk_column_laws.specs.Moments.{Taught, Moment}
+use Rattle.mk_column_laws.specs.Laws.{AlwaysHolds}
 use Rattle.mk_run_laws.specs.RunLaws.{InRuns, TeachingStays, RunsReachMoments}
 use Rattle.mk_run_laws.specs.TaughtIn.{taught_in}
 use Rattle.mk_run_laws.proofs.columns_hold.Goals as goal
