@@ -16,10 +16,10 @@ use std::time::{Clock, Duration, Instant};
 use std::{env, io, thread};
 
 // The acts of each thread in a run.
-const ACTS: u32 = 200_000;
+const ACTS: u32 = 100_000;
 
 // The runs of which the best counts.
-const RUNS: u32 = 5;
+const RUNS: u32 = 3;
 
 // Does the acts, and counts them.
 fn act_often<R: Wait>(rt: &R, lock: &KeyLock, mut seat: Seat) -> u32
