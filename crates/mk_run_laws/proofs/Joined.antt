@@ -29,7 +29,7 @@ pub replicas_reset-append : (one other : List ℕ) (column : ColumnState) → re
 replicas_reset-append [] other column = refl
 replicas_reset-append (r ∷ one) other column = replicas_reset-append one other (replica_reset r column)
 
-slice_get-numbers : (n k c : ℕ) → c < n → slice_get (numbers_from k n) c ≡ Some (k + c)
+pub slice_get-numbers : (n k c : ℕ) → c < n → slice_get (numbers_from k n) c ≡ Some (k + c)
 slice_get-numbers zero k c lt = absurd (omega (arith, lt))
 slice_get-numbers (suc n) k zero lt = ap Some (omega arith)
 slice_get-numbers (suc n) k (suc c) lt = slice_get-numbers n (k + 1) c (omega (arith, lt)) ∙ ap Some (omega arith)

@@ -81,7 +81,7 @@ serving_phase Adopted e = absurd (cc e)
 serving_phase Lacking e = absurd (cc e)
 
 -- a view that serves an epoch is of a replica that serves it
-serves_at : (xs : List ReplicaState) (r e : ℕ) → serves e (slice_get (map view_of xs) r) ≡ true → (x : ReplicaState) × (slice_get xs r ≡ Some x) × (x.phase ≡ Serving) × (x.adopted ≡ e)
+pub serves_at : (xs : List ReplicaState) (r e : ℕ) → serves e (slice_get (map view_of xs) r) ≡ true → (x : ReplicaState) × (slice_get xs r ≡ Some x) × (x.phase ≡ Serving) × (x.adopted ≡ e)
 serves_at xs r e is = by (slice_get xs r) refl (subst (λ (o : Option ReplicaView). serves e o ≡ true) (slice_get-map view_of xs r) is)
   where
     by : (o : Option ReplicaState) → slice_get xs r ≡ o → serves e (option_map view_of o) ≡ true → (x : ReplicaState) × (slice_get xs r ≡ Some x) × (x.phase ≡ Serving) × (x.adopted ≡ e)

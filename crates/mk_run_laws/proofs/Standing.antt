@@ -37,7 +37,7 @@ abbrev pub At : (ReplicaState → Type 0) → ℕ → List ReplicaState → Type
 At P r xs = (x : ReplicaState) × (slice_get xs r ≡ Some x) × P x
 
 -- one place is set
-at_set : (P Q : ReplicaState → Type 0) (xs : List ReplicaState) (q : ℕ) (x y : ReplicaState) → slice_get xs q ≡ Some x → (r : ℕ) →
+pub at_set : (P Q : ReplicaState → Type 0) (xs : List ReplicaState) (q : ℕ) (x y : ReplicaState) → slice_get xs q ≡ Some x → (r : ℕ) →
     (r ≡ q → P x → Q y) → ((r ≡ q → ⊥) → (z : ReplicaState) → P z → Q z) → At P r xs → At Q r (slice_set xs q y)
 at_set P Q xs q x y at r here there (z, is, h) = elim (same_or_not r q) [
   | inl same ↦ (
@@ -49,7 +49,7 @@ at_set P Q xs q x y at r here there (z, is, h) = elim (same_or_not r q) [
 ]
 
 -- nothing is there at a place
-at_none : (P Q : ReplicaState → Type 0) (xs : List ReplicaState) (q : ℕ) → slice_get xs q ≡ None → (r : ℕ) → ((r ≡ q → ⊥) → (z : ReplicaState) → P z → Q z) → At P r xs → At Q r xs
+pub at_none : (P Q : ReplicaState → Type 0) (xs : List ReplicaState) (q : ℕ) → slice_get xs q ≡ None → (r : ℕ) → ((r ≡ q → ⊥) → (z : ReplicaState) → P z → Q z) → At P r xs → At Q r xs
 at_none P Q xs q none r there (z, is, h) = (z, is, there (λ same. absurd (cc (sym is ∙ ap (slice_get xs) same ∙ none))) z h)
 
 -- ---- the flag
@@ -110,7 +110,7 @@ adopted_stands e epoch base left flag x may h = let up = by h in inr (omega (ari
 
 -- ---- one line
 
-adopt_may : (state : EpochState) (epoch : ℕ) (x : ReplicaState) → is_accepted (adopt_answer state epoch (Some x)) ≡ true → is_too_old x epoch ≡ false
+pub adopt_may : (state : EpochState) (epoch : ℕ) (x : ReplicaState) → is_accepted (adopt_answer state epoch (Some x)) ≡ true → is_too_old x epoch ≡ false
 adopt_may state epoch x is = by (not (is_some (made_for epoch state))) (is_too_old x epoch) is
   where
     by : (a b : Bool) → is_accepted (cond a Unmade (cond b (Old x.word) Done)) ≡ true → b ≡ false
@@ -118,7 +118,7 @@ adopt_may state epoch x is = by (not (is_some (made_for epoch state))) (is_too_o
     by false true is = absurd (cc is)
     by false false is = refl
 
-promise_may : (state : EpochState) (epoch : ℕ) (x : ReplicaState) → is_accepted (promise_answer state epoch (Some x)) ≡ true → (lacks x.phase ≡ false) × (x.word < epoch)
+pub promise_may : (state : EpochState) (epoch : ℕ) (x : ReplicaState) → is_accepted (promise_answer state epoch (Some x)) ≡ true → (lacks x.phase ≡ false) × (x.word < epoch)
 promise_may state epoch x is = by (not (was_asked epoch state)) (lacks x.phase) refl (nat_le epoch x.word) refl is
   where
     by : (a b : Bool) → lacks x.phase ≡ b → (c : Bool) → nat_le epoch x.word ≡ c →
@@ -185,7 +185,7 @@ module _ (state : EpochState) (handed : HandedIn) (e r : ℕ) (left : Bool) wher
 
 -- ---- the lines of a round
 
-answer_given : (state : EpochState) (line : GlobalLine) (answer : GlobalAnswer) → IsAnswer state line answer → is_accepted answer ≡ true → is_accepted (global_answer state line) ≡ true
+pub answer_given : (state : EpochState) (line : GlobalLine) (answer : GlobalAnswer) → IsAnswer state line answer → is_accepted answer ≡ true → is_accepted (global_answer state line) ≡ true
 answer_given state line answer (inl k) is = ap is_accepted (sym k) ∙ is
 answer_given state line answer (inr fault) is = absurd (cc (sym (ap is_accepted fault.0) ∙ is))
 

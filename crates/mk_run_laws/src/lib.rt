@@ -4,6 +4,7 @@
 #![tactic(auto)]
 
 ghost use Rattle.mk_run_laws.specs.RunLaws.{RoundsJoin, LinesReset, LinesAreTurns, TeachingStays, TaughtMeans, RunsReachMoments, FactsInRuns, ActsInRuns, ReadsInRuns, OneDecisionInRuns, LearnedInRuns, IdsInRuns};
+ghost use Rattle.mk_run_laws.specs.Tenures.{TenuresReplay, TenuresAscend, TenuresMatch};
 
 /// A run is a list of events for each column, and a list of turns for its epoch changes.
 pub fn rounds_join()
@@ -38,3 +39,11 @@ pub fn columns_hold()
     mk_agreement::views_agree();
     mk_agreement::learnings_are_backed();
 }
+
+/// What a replica did with a key while it had an epoch's state replays from the cell that the epoch's base makes, and is
+/// what the columns did there.
+pub fn tenures_hold()
+    ensures tenures_replay { TenuresReplay }
+    ensures tenures_ascend { TenuresAscend }
+    ensures tenures_match { TenuresMatch }
+{}
