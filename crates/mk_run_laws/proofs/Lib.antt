@@ -9,3 +9,4 @@ pub mod Born
 pub mod Tenured
 pub mod Turns
 pub mod Matched
+pub mod Clashing

@@ -26,7 +26,7 @@ use Rattle.mk_run_laws.proofs.Cells.{LineCell, HasCell, has_cell, cell_first, ce
 
 -- ---- lists of entries
 
-entries_in-append : (one other : List DatedEntry) → entries_in (one ++ other) ≡ entries_in one ++ entries_in other
+pub entries_in-append : (one other : List DatedEntry) → entries_in (one ++ other) ≡ entries_in one ++ entries_in other
 entries_in-append [] other = refl
 entries_in-append (d ∷ one) other = ap (λ (es : List JournalEntry). d.entry ∷ es) (entries_in-append one other)
 

@@ -1,6 +1,12 @@
 -- What a replica did with a key while it had the state of one epoch.
-use Rattle.std.specs.Prelude.{◌≡◌, ◌<◌, ◌≤◌, ℕ, ◌+◌, Bool, true, false, not, ◌&&◌, ◌==◌, List, [], ◌∷◌, ◌++◌, map, length, Option, Some, None, slice_get, if◌then◌else◌}
+use Rattle.std.specs.Prelude.{◌≡◌, ◌⊎◌, ◌<◌, ◌≤◌, ℕ, ◌+◌, Bool, true, false, not, ◌&&◌, ◌==◌, List, [], ◌∷◌, ◌++◌, map, length, Option, Some, None, slice_get, if◌then◌else◌}
 use Rattle.mk_lists.specs.Among.{Among, Each}
+use Rattle.mk_txn.specs.declared.Stamp.{Stamp}
+use Rattle.mk_txn.specs.Stamps.{is_before}
+use Rattle.mk_cell.specs.declared.Act.{Act}
+use Rattle.mk_cell.specs.declared.Act.TheVariants.{CheckRead, CheckWrite, ReleaseRead, ReleaseWrite}
+use Rattle.mk_cell.specs.declared.Answer.{Answer}
+use Rattle.mk_cell.specs.declared.Answer.TheVariants.{Okay}
 use Rattle.mk_cell.specs.declared.JournalEntry.{JournalEntry}
 use Rattle.mk_cell.specs.Journals.{cell_through, EachAnswered}
 use Rattle.mk_quorum.specs.Sizes.{members}
@@ -81,3 +87,22 @@ abbrev pub TenuresMatch : Type 0
 TenuresMatch =
     (run : History) (rounds : List RoundLog) → EachRoundLegal run (first_state run) rounds →
     (c r epoch key : ℕ) → c < run.columns → r < members run.faults → key < length run.key_names → IsMatchedTo run rounds c r epoch key
+
+-- a tenure has this act with this answer, in this round
+abbrev pub IsIn : List DatedEntry → ℕ → Act → Answer → Type 0
+IsIn tenure round act answer = (d : DatedEntry) × Among d tenure × (d.round ≡ round) × (d.entry.act ≡ act) × (d.entry.answer ≡ answer)
+
+-- a tenure has this act in a round that is not later than this one
+abbrev pub IsInBy : List DatedEntry → ℕ → Act → Type 0
+IsInBy tenure round act = (d : DatedEntry) × Among d tenure × (d.round ≤ round) × (d.entry.act ≡ act)
+
+-- where a replica let in both the check of a read and the check of a write between the read's version and the reader, it
+-- gave up the read not later than the round in which it checked the write, or the write not later than that of the read
+abbrev pub ClashesGiveUp : Type 0
+ClashesGiveUp =
+    (run : History) (rounds : List RoundLog) → EachRoundLegal run (first_state run) rounds →
+    (r epoch key : ℕ) → r < members run.faults → key < length run.key_names →
+    (base : BaseState) → base_for epoch (state_through run (first_state run) rounds).epochs ≡ Some base →
+    (ts version other : Stamp) (i j : ℕ) → is_before version other ≡ true → is_before other ts ≡ true →
+    IsIn (tenure_of run rounds r epoch key) i (CheckRead ts version) Okay → IsIn (tenure_of run rounds r epoch key) j (CheckWrite other) Okay →
+    IsInBy (tenure_of run rounds r epoch key) j (ReleaseRead ts) ⊎ IsInBy (tenure_of run rounds r epoch key) i (ReleaseWrite other)

@@ -4,7 +4,7 @@
 #![tactic(auto)]
 
 ghost use Rattle.mk_run_laws.specs.RunLaws.{RoundsJoin, LinesReset, LinesAreTurns, TeachingStays, TaughtMeans, RunsReachMoments, FactsInRuns, ActsInRuns, ReadsInRuns, OneDecisionInRuns, LearnedInRuns, IdsInRuns};
-ghost use Rattle.mk_run_laws.specs.Tenures.{TenuresReplay, TenuresAscend, TenuresMatch};
+ghost use Rattle.mk_run_laws.specs.Tenures.{TenuresReplay, TenuresAscend, TenuresMatch, ClashesGiveUp};
 
 /// A run is a list of events for each column, and a list of turns for its epoch changes.
 pub fn rounds_join()
@@ -46,4 +46,7 @@ pub fn tenures_hold()
     ensures tenures_replay { TenuresReplay }
     ensures tenures_ascend { TenuresAscend }
     ensures tenures_match { TenuresMatch }
-{}
+    ensures clashes_give_up { ClashesGiveUp }
+{
+    mk_basic_laws::cells_remember();
+}
