@@ -1,7 +1,6 @@
 -- How a replica comes by an epoch that it never had: by its adoption alone. A base that was made stays.
-use Rattle.std.proofs.Common.{◌≡◌, ◌⊎◌, ◌<◌, ◌≤◌, ℕ, Bool, true, false, refl, arith, inl, inr, sym, ap, ◌∙◌, List, [], ◌∷◌, Option, Some, None, subst, cond, ◌&&◌}
+use Rattle.std.proofs.Common.{◌≡◌, ◌⊎◌, ℕ, Bool, true, false, refl, arith, inl, inr, sym, ap, ◌∙◌, List, [], ◌∷◌, Option, Some, None, subst, cond}
 use Rattle.std.specs.Prelude.{slice_get, slice_set, find, option_map, is_some, not, ◌++◌, ◌==◌}
-use Rattle.std.proofs.lemmas.Bool.Decides.{nat_tests}
 use Rattle.mk_merge.specs.Bases.{BaseState}
 use Rattle.mk_merge.specs.declared.Phase.{Phase}
 use Rattle.mk_merge.specs.declared.Phase.TheVariants.{Serving, Paused, Adopted, Lacking}
@@ -16,8 +15,8 @@ use Rattle.mk_epoch.specs.GlobalSteps.{HandedIn, global_after, change_replica, w
 use Rattle.mk_merge_laws.proofs.ListLaws.{same_or_not, both_true, slice_get-set_same, slice_get-set_other, slice_get-change, slice_get-changed, some_same, find-append_some}
 use Rattle.mk_history.specs.declared.RoundLog.{RoundLog}
 use Rattle.mk_history.specs.Histories.{History}
-use Rattle.mk_history.specs.Wholes.{WholeState, after_logs, after_global, after_line, globals_through, after_round, state_through, handed_in}
-use Rattle.mk_run_laws.proofs.Standing.{At, HasIt, at_set, at_none, adopt_may, promise_may}
+use Rattle.mk_history.specs.Wholes.{WholeState, after_logs, after_global, globals_through, after_round, state_through, handed_in}
+use Rattle.mk_run_laws.proofs.Standing.{At, HasIt, at_set, promise_may}
 
 -- the replica does not have the epoch
 abbrev pub NotIt : ℕ → ReplicaState → Type 0

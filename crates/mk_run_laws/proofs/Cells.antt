@@ -1,7 +1,6 @@
 -- The cells of a replica over a round: its journals, and lines that empty replicas.
-use Rattle.std.proofs.Common.{◌≡◌, ◌⊎◌, ◌<◌, ℕ, zero, suc, ◌+◌, Bool, true, false, refl, arith, sym, ap, ◌∙◌, inl, inr, List, [], ◌∷◌, ◌++◌, Option, Some, None, subst, cond, ◌||◌, map, replicate, length}
-use Rattle.std.specs.Prelude.{slice_get, slice_set, slice_index_or, option_map, ◌==◌}
-use Rattle.std.proofs.lemmas.Bool.Decides.{nat_tests}
+use Rattle.std.proofs.Common.{◌≡◌, ◌⊎◌, ◌<◌, ℕ, zero, suc, ◌+◌, Bool, true, false, refl, arith, sym, ap, ◌∙◌, inl, inr, List, [], ◌∷◌, ◌++◌, Some, replicate, length}
+use Rattle.std.specs.Prelude.{slice_get, slice_set, slice_index_or, option_map}
 use Rattle.std.proofs.lemmas.Option.{slice_get-map}
 use Rattle.mk_cell.specs.declared.JournalEntry.{JournalEntry}
 use Rattle.mk_cell.specs.Cells.{CellState, first_cell, cell_after}
@@ -9,7 +8,6 @@ use Rattle.mk_cell.specs.Journals.{cell_through, EachAnswered}
 use Rattle.mk_quorum.specs.Sizes.{members}
 use Rattle.mk_merge.specs.Bases.{BaseState, empty_base}
 use Rattle.mk_merge.specs.Rebuilding.{rebuilt}
-use Rattle.mk_global.specs.declared.GlobalEntry.{GlobalEntry}
 use Rattle.mk_global.specs.declared.GlobalLine.{GlobalLine}
 use Rattle.mk_global.specs.declared.GlobalLine.TheVariants.{Wipe, Ask, Promise, Merge, Adopt, Enter}
 use Rattle.mk_column.specs.ColumnState.{numbers_from}
@@ -77,12 +75,11 @@ cells_after-get round n (x ∷ cells) (suc r) row e =
 
 pub cell_after_logs : (run : History) (round : RoundLog) (state : WholeState) (r key : ℕ) (cell : CellState) → HasCell state r key cell →
     HasCell (after_logs run round state) r key (cell_through cell (journal_of round r key))
-cell_after_logs run round state r key cell (row, at, is) =
-    (
-      keys_after_journals round r 0 row,
-      cells_after-get round 0 state.cells r row at ∙ ap (λ (k : ℕ). Some (keys_after_journals round k 0 row)) (omega arith),
-      keys_after-get round r 0 row key cell is ∙ ap (λ (k : ℕ). Some (cell_through cell (journal_of round r k))) (omega arith),
-    )
+cell_after_logs run round state r key cell (row, at, is) = (
+  keys_after_journals round r 0 row,
+  cells_after-get round 0 state.cells r row at ∙ ap (λ (k : ℕ). Some (keys_after_journals round k 0 row)) (omega arith),
+  keys_after-get round r 0 row key cell is ∙ ap (λ (k : ℕ). Some (cell_through cell (journal_of round r k))) (omega arith),
+)
 
 -- ---- lines
 
@@ -90,13 +87,16 @@ cell_after_logs run round state r key cell (row, at, is) =
 cell_restarted : (run : History) (q : ℕ) (base : BaseState) (state : WholeState) (r key : ℕ) (cell : CellState) → key < length run.key_names → HasCell state r key cell →
     ((r ≡ q) × HasCell (restarted run q base state) r key (rebuilt base key)) ⊎ ((r ≡ q → ⊥) × HasCell (restarted run q base state) r key cell)
 cell_restarted run q base state r key cell lt (row, at, is) = elim (same_or_not r q) [
-  | inl same ↦ inl (same, (
-    rebuilt_cells (length run.key_names) base,
-    ap (λ (k : ℕ). slice_get (slice_set state.cells k (rebuilt_cells (length run.key_names) base)) r) (sym same)
-    ∙ slice_get-set_same state.cells r row (rebuilt_cells (length run.key_names) base) at,
-    slice_get-map (rebuilt base) (numbers_from 0 (length run.key_names)) key
-    ∙ ap (option_map (rebuilt base)) (slice_get-numbers (length run.key_names) 0 key lt) ∙ ap (λ (k : ℕ). Some (rebuilt base k)) (omega arith),
-  ))
+  | inl same ↦ inl (
+    same,
+    (
+      rebuilt_cells (length run.key_names) base,
+      ap (λ (k : ℕ). slice_get (slice_set state.cells k (rebuilt_cells (length run.key_names) base)) r) (sym same)
+          ∙ slice_get-set_same state.cells r row (rebuilt_cells (length run.key_names) base) at,
+      slice_get-map (rebuilt base) (numbers_from 0 (length run.key_names)) key
+          ∙ ap (option_map (rebuilt base)) (slice_get-numbers (length run.key_names) 0 key lt) ∙ ap (λ (k : ℕ). Some (rebuilt base k)) (omega arith),
+    ),
+  )
   | inr apart ↦ inr (apart, (row, slice_get-set_other state.cells q r (rebuilt_cells (length run.key_names) base) apart ∙ at, is))
 ]
 
@@ -133,22 +133,22 @@ module _ (run : History) (state : WholeState) (r key : ℕ) (cell : CellState) (
   pub line_cell : (line : GlobalLine) → LineCell run line state r key cell
   line_cell (Wipe q) = elim (cell_restarted run q empty_base state r key cell lt has) [
     | inl here ↦ (let k = emptied_here q r here.0 in
-      record {
-        after = rebuilt empty_base key;
-        has = here.1;
-        stays = λ kept. absurd (cc (sym k ∙ kept));
-        taken = λ epoch e. absurd (cc (ap is_adopt e));
-      })
+        record {
+          after = rebuilt empty_base key;
+          has = here.1;
+          stays = λ kept. absurd (cc (sym k ∙ kept));
+          taken = λ epoch e. absurd (cc (ap is_adopt e));
+        })
     | inr there ↦ same_cell (Wipe q) refl there.1
   ]
   line_cell (Adopt epoch q) = elim (cell_restarted run q (of_base epoch state) state r key cell lt has) [
     | inl here ↦ (let k = emptied_here q r here.0 in
-      record {
-        after = rebuilt (of_base epoch state) key;
-        has = here.1;
-        stays = λ kept. absurd (cc (sym k ∙ kept));
-        taken = λ e l. ap (λ (n : ℕ). rebuilt (of_base n state) key) (ap adopted_epoch l);
-      })
+        record {
+          after = rebuilt (of_base epoch state) key;
+          has = here.1;
+          stays = λ kept. absurd (cc (sym k ∙ kept));
+          taken = λ e l. ap (λ (n : ℕ). rebuilt (of_base n state) key) (ap adopted_epoch l);
+        })
     | inr there ↦ record { after = cell; has = there.1; stays = λ _. refl; taken = λ e l. absurd (there.0 (sym (ap adopted_by l))) }
   ]
   line_cell (Ask epoch) = same_cell (Ask epoch) refl has

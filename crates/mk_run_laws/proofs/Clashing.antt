@@ -1,18 +1,15 @@
 -- Of two checks that clash, both let in, the first was given up before the second.
-use Rattle.std.proofs.Common.{◌≡◌, ◌⊎◌, ◌<◌, ◌≤◌, ℕ, true, refl, inl, inr, sym, ap, ◌∙◌, List, [], ◌∷◌, ◌++◌, Some, subst, length, map}
-use Rattle.mk_lists.specs.Among.{Among, Each, Each-among, Among-append_left, Among-append_right}
-use Rattle.mk_txn.specs.declared.Stamp.{Stamp}
-use Rattle.mk_txn.specs.Stamps.{is_before}
+use Rattle.std.proofs.Common.{◌≡◌, ◌⊎◌, ◌≤◌, ℕ, refl, inl, inr, sym, ap, ◌∙◌, List, [], ◌∷◌, ◌++◌, subst}
+use Rattle.mk_lists.specs.Among.{Among, Each-among, Among-append_left, Among-append_right}
 use Rattle.mk_cell.specs.declared.Act.{Act}
 use Rattle.mk_cell.specs.declared.Act.TheVariants.{CheckRead, CheckWrite, ReleaseRead, ReleaseWrite}
-use Rattle.mk_cell.specs.declared.Answer.TheVariants.{Okay}
 use Rattle.mk_cell.specs.declared.JournalEntry.{JournalEntry}
 use Rattle.mk_cell.specs.Cells.{CellState}
 use Rattle.mk_cell.specs.Journals.{EachAnswered}
 use Rattle.mk_merge.specs.Rebuilding.{rebuilt}
 use Rattle.mk_merge_laws.proofs.ListLaws.{Among-mapped}
 use Rattle.mk_basic_laws.specs.CellMemory.{Done, ReadThenWrite, WriteThenRead}
-use Rattle.mk_run_laws.specs.Tenures.{DatedEntry, entries_in, tenure_of, AreInOrder, IsIn, IsInBy, ClashesGiveUp}
+use Rattle.mk_run_laws.specs.Tenures.{DatedEntry, entries_in, tenure_of, AreInOrder, IsInBy, ClashesGiveUp}
 use Rattle.mk_run_laws.proofs.Tenured.{entries_in-append, tenures_replay, tenures_ascend}
 
 -- the one stands before the other
@@ -70,7 +67,7 @@ done_between one other tenure order s act (entry, a, is) =
     let f = Among-mapped (λ (d : DatedEntry). d.entry) entry s.middle a in
     let d = f.0 in
     let inside : Among d (s.before ++ (one ∷ (s.middle ++ (other ∷ s.rest)))) =
-        Among-append_right d s.before (one ∷ (s.middle ++ (other ∷ s.rest))) (inr (Among-append_left d s.middle (other ∷ s.rest) f.1)) in
+    Among-append_right d s.before (one ∷ (s.middle ++ (other ∷ s.rest))) (inr (Among-append_left d s.middle (other ∷ s.rest) f.1)) in
     let rest = in_order_rest s.before (one ∷ (s.middle ++ (other ∷ s.rest))) (subst AreInOrder s.whole order) in
     (d, subst (Among d) (sym s.whole) inside, middle_early d other s.middle s.rest rest.1 f.1, ap (λ (x : JournalEntry). x.act) f.2 ∙ is)
 
@@ -87,15 +84,15 @@ clashes_give_up read_first write_first run rounds legal r e key rlt klt base is 
     let replays = (tenures_replay run rounds legal r e key rlt klt base is).answered in
     elim (either_first d w tenure a b (λ same. apart (sym act ∙ ap (λ (x : DatedEntry). x.entry.act) same ∙ act_other))) [
       | inl s ↦ (
-        let done = read_first opening (entries_in s.before) (entries_in s.middle) (entries_in s.rest) d.entry w.entry ts version other
-            (answered_so opening d w tenure s replays) act answer act_other answer_other below in
-        let k = done_between d w tenure order s (ReleaseRead ts) done in
-        inl (k.0, k.1, subst (λ (n : ℕ). (k.0).round ≤ n) at_other k.2, k.3))
+          let done = read_first opening (entries_in s.before) (entries_in s.middle) (entries_in s.rest) d.entry w.entry ts version other
+          (answered_so opening d w tenure s replays) act answer act_other answer_other below in
+          let k = done_between d w tenure order s (ReleaseRead ts) done in
+          inl (k.0, k.1, subst (λ (n : ℕ). (k.0).round ≤ n) at_other k.2, k.3))
       | inr s ↦ (
-        let done = write_first opening (entries_in s.before) (entries_in s.middle) (entries_in s.rest) w.entry d.entry ts version other
-            (answered_so opening w d tenure s replays) act_other answer_other act answer above below in
-        let k = done_between w d tenure order s (ReleaseWrite other) done in
-        inr (k.0, k.1, subst (λ (n : ℕ). (k.0).round ≤ n) at k.2, k.3))
+          let done = write_first opening (entries_in s.before) (entries_in s.middle) (entries_in s.rest) w.entry d.entry ts version other
+          (answered_so opening w d tenure s replays) act_other answer_other act answer above below in
+          let k = done_between w d tenure order s (ReleaseWrite other) done in
+          inr (k.0, k.1, subst (λ (n : ℕ). (k.0).round ≤ n) at k.2, k.3))
     ]
   where
     apart : CheckRead ts version ≡ CheckWrite other → ⊥

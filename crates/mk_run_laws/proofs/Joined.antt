@@ -1,22 +1,21 @@
 -- The events of a column lead to the column that the whole has.
-use Rattle.std.proofs.Common.{◌≡◌, ◌<◌, ℕ, zero, suc, ◌+◌, refl, arith, sym, ap, ◌∙◌, List, [], ◌∷◌, ◌++◌, Option, Some, None, subst, cond, Bool, true, false, map, length}
-use Rattle.std.specs.Prelude.{slice_get, slice_set, slice_index_or, option_map}
+use Rattle.std.proofs.Common.{◌≡◌, ◌<◌, ℕ, zero, suc, ◌+◌, refl, arith, sym, ap, ◌∙◌, List, [], ◌∷◌, ◌++◌, Some, cond, Bool, true, false, map, length}
+use Rattle.std.specs.Prelude.{slice_get, slice_index_or, option_map}
 use Rattle.std.proofs.lemmas.Option.{slice_get-map}
 use Rattle.mk_column.specs.declared.Step.{Step}
 use Rattle.mk_column.specs.ColumnState.{ColumnState, Setting, new_column, numbers_from}
-use Rattle.mk_column.specs.Steps.{column_after}
 use Rattle.mk_column.specs.Logs.{column_through, reading_ended, replica_reset}
 use Rattle.mk_global.specs.declared.GlobalEntry.{GlobalEntry}
 use Rattle.mk_global.specs.declared.GlobalLine.{GlobalLine}
 use Rattle.mk_global.specs.declared.GlobalLine.TheVariants.{Wipe, Ask, Promise, Merge, Adopt, Enter}
 use Rattle.mk_epoch.specs.EpochState.{views_of}
 use Rattle.mk_epoch.specs.GlobalAnswers.{is_accepted}
-use Rattle.mk_agreement.specs.Moments.{Moment, Event, moment_through, after_event, step_done, round_begun, replicas_reset}
+use Rattle.mk_agreement.specs.Moments.{Moment, Event, moment_through, after_event, step_done, replicas_reset}
 use Rattle.mk_agreement.specs.Moments.Event.{NewRound, Doing}
 use Rattle.mk_history.specs.declared.RoundLog.{RoundLog}
 use Rattle.mk_history.specs.Histories.{History, clients_of, log_of}
 use Rattle.mk_history.specs.Wholes.{WholeState, first_state, setting_of, column_of, columns_after_logs, after_logs, after_line, after_global, globals_through, after_round, state_through}
-use Rattle.mk_run_laws.specs.RunEvents.{emptied_by, emptied_in, events_from, events_of, start_of, moment_of}
+use Rattle.mk_run_laws.specs.RunEvents.{emptied_by, emptied_in, events_from, start_of, moment_of}
 use Rattle.mk_run_laws.specs.RunLaws.{RoundsJoin, LinesReset}
 
 -- ---- lists
@@ -188,8 +187,7 @@ module _ (run : History) (c : ℕ) where
       let column = reading_ended (replicas_reset emptied m.column) in
       let same = moment_through-append (begins state emptied m) (map Doing log) [] in
       let has = column_after_logs run round state c column e in
-      let now = now_works c state emptied round m in
-      (
+      let now = now_works c state emptied round m in (
         has ∙ ap (λ (col : ColumnState). Some col) (sym (ap (λ (n : Moment). n.column) same ∙ column_works run c state emptied round m h)),
         ap (λ (n : Moment). n.round) same ∙ setting_works run c state emptied round m h,
         ap (λ (n : Moment). n.past.now) same ∙ now ∙ omega arith,
@@ -200,8 +198,7 @@ module _ (run : History) (c : ℕ) where
       let same = moment_through-append (begins state emptied m) (map Doing (log_of first c)) later in
       let k = join_from done round (after_round run first state) (emptied_in first.globals) next (keeps_setting run c state emptied first m h) (next_begun run c state emptied first m h e) in
       let now = now_works c state emptied first m in
-      let count = k.2 in
-      (
+      let count = k.2 in (
         k.0 ∙ ap (λ (n : Moment). Some n.column) (sym same),
         ap (λ (n : Moment). n.round) same ∙ k.1,
         ap (λ (n : Moment). n.past.now) same ∙ count ∙ (omega (arith, now)),

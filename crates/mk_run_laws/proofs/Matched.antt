@@ -1,28 +1,26 @@
 -- The entries of a tenure are the key acts of the columns.
-use Rattle.std.proofs.Common.{◌≡◌, ◌⊎◌, ◌<◌, ◌≤◌, ℕ, ◌+◌, Bool, true, false, refl, arith, inl, inr, sym, ap, ◌∙◌, List, [], ◌∷◌, ◌++◌, Option, Some, None, subst, cond, not, ◌||◌, ◌&&◌, map, length}
+use Rattle.std.proofs.Common.{◌≡◌, ◌<◌, ◌≤◌, ℕ, ◌+◌, Bool, true, false, refl, arith, inl, inr, sym, ap, ◌∙◌, List, [], ◌∷◌, ◌++◌, Option, Some, None, subst, cond, not, ◌&&◌, map, length}
 use Rattle.std.specs.Prelude.{slice_get, option_map, ◌==◌}
 use Rattle.std.proofs.lemmas.Option.{slice_get-map}
 use Rattle.mk_lists.specs.Among.{Among, Among-append, Among-append_left, Among-append_right}
-use Rattle.mk_cell.specs.declared.JournalEntry.{JournalEntry}
 use Rattle.mk_quorum.specs.Sizes.{members}
 use Rattle.mk_merge.specs.declared.ReplicaView.{ReplicaView}
-use Rattle.mk_merge.specs.declared.Phase.TheVariants.{Serving}
 use Rattle.mk_column.specs.declared.Step.{Step}
 use Rattle.mk_column.specs.Replicas.{serves}
 use Rattle.mk_column.specs.Steps.{epoch_of}
 use Rattle.mk_epoch.specs.EpochState.{ReplicaState, view_of, views_of}
 use Rattle.mk_epoch.specs.GlobalAnswers.{lacks}
 use Rattle.mk_merge_laws.proofs.ListLaws.{append-none, append-later, Among-map, Among-mapped, both_true, eqb-tells, eqb-same}
-use Rattle.mk_agreement.specs.Moments.{Moment, PastAct, Event, after_event, moment_through, step_done}
-use Rattle.mk_agreement.specs.Moments.Event.{NewRound, Doing}
+use Rattle.mk_agreement.specs.Moments.{Moment, PastAct, moment_through, step_done}
+use Rattle.mk_agreement.specs.Moments.Event.{Doing}
 use Rattle.mk_history.specs.declared.RoundLog.{RoundLog}
 use Rattle.mk_history.specs.Histories.{History, log_of, journal_of}
-use Rattle.mk_history.specs.Matching.{Turn, turns_in_log, turns_in_journal}
+use Rattle.mk_history.specs.Matching.{turns_in_log, turns_in_journal}
 use Rattle.mk_history.specs.Legality.{EachRoundLegal}
 use Rattle.mk_history.specs.Wholes.{WholeState, first_state, after_round}
-use Rattle.mk_run_laws.specs.RunEvents.{emptied_in, events_from, events_of, start_of, moment_of}
-use Rattle.mk_run_laws.specs.Tenures.{DatedEntry, dated_at, has_epoch, tenure_from, tenure_of, act_in, IsMatchedTo, TenuresMatch}
-use Rattle.mk_run_laws.proofs.Joined.{begins, works, now_works, moment_through-append, setting_done, now_done}
+use Rattle.mk_run_laws.specs.RunEvents.{emptied_in, events_from, start_of}
+use Rattle.mk_run_laws.specs.Tenures.{DatedEntry, dated_at, has_epoch, tenure_from, act_in, TenuresMatch}
+use Rattle.mk_run_laws.proofs.Joined.{begins, works, now_works, moment_through-append}
 use Rattle.mk_run_laws.proofs.Reaching.{serves_at}
 use Rattle.mk_run_laws.proofs.Turns.{turn_of_entry, turn_of_act, entry_turn, turn_entry, act_then, turn_done, act_turn, acts_stay}
 
@@ -67,7 +65,7 @@ module _ (run : History) (c r e key : ℕ) (clt : c < run.columns) (rlt : r < me
           let done = turn_done (begins state emptied m) (log_of round c) r key (turn_of_entry entry) (subst (Among (turn_of_entry entry)) matched t) in
           let seen = seen_in e state.epochs.replicas r k in
           let is : act_then (begins state emptied m) r key (turn_of_entry entry) ≡ act_in r e key (dated_at n entry) =
-              λ i. record { round = now i; replica = r; epoch = seen i; key = key; act = entry.act; answer = entry.answer } in
+          λ i. record { round = now i; replica = r; epoch = seen i; key = key; act = entry.act; answer = entry.answer } in
           subst (λ (x : PastAct). Among x (works c state emptied round m).past.acts) (is ∙ ap (act_in r e key) same) done
 
   entry_done : (rounds : List RoundLog) (state : WholeState) (emptied : List ℕ) (m : Moment) (n : ℕ) → EachRoundLegal run state rounds → m.past.now + 1 ≡ n →
@@ -121,15 +119,14 @@ module _ (run : History) (c r e key : ℕ) (clt : c < run.columns) (rlt : r < me
       Entered act (cond (has_epoch e (slice_get state.epochs.replicas r)) (map (dated_at n) (journal_of round r key)) [])
   fresh round state matched n act here at t served =
       let at_key = subst (λ (k : ℕ). Among (turn_of_act act) (turns_in_log r k (log_of round c))) here.2
-          (subst (λ (q : ℕ). Among (turn_of_act act) (turns_in_log q act.key (log_of round c))) here.0 t) in
+      (subst (λ (q : ℕ). Among (turn_of_act act) (turns_in_log q act.key (log_of round c))) here.0 t) in
       let f = turn_entry c (turn_of_act act) (journal_of round r key) (subst (Among (turn_of_act act)) (sym matched) at_key) in
       let entry = f.0 in
       let has = serves_has e state.epochs.replicas r served in
       let in_round = here.0 in
       let in_epoch = here.1 in
       let on_key = here.2 in
-      let same = f.3 in
-      (
+      let same = f.3 in (
         dated_at n entry,
         subst (λ (b : Bool). Among (dated_at n entry) (cond b (map (dated_at n) (journal_of round r key)) [])) (sym has) (Among-map (dated_at n) entry (journal_of round r key) f.1),
         f.2,
@@ -155,7 +152,7 @@ module _ (run : History) (c r e key : ℕ) (clt : c < run.columns) (rlt : r < me
             elim (act_turn first log act a) [
               | inl old ↦ more_entered act tenure more (k.entered act old here (served_before views m.past.now act.round (m.past.served_in act.round r e) (k.early act old) served_then))
               | inr new ↦ (let f = fresh round state matched n act here (new.0 ∙ now) new.1 (served_now views m.past.now act.round (m.past.served_in act.round r e) new.0 served_then) in
-                (f.0, Among-append_right f.0 tenure more f.1, f.2, f.3))
+                  (f.0, Among-append_right f.0 tenure more f.1, f.2, f.3))
             ];
       }
 
@@ -176,7 +173,7 @@ module _ (run : History) (c r e key : ℕ) (clt : c < run.columns) (rlt : r < me
 pub tenures_match : TenuresMatch
 tenures_match run rounds legal c r e key clt rlt klt =
     let k = kept_rounds run c r e key clt rlt klt rounds (first_state run) [] (start_of run c) 1 legal refl []
-        (record { early = λ act none. absurd none; entered = λ act none. absurd none }) in
+    (record { early = λ act none. absurd none; entered = λ act none. absurd none }) in
     record {
       entry_done = entry_done run c r e key clt rlt klt rounds (first_state run) [] (start_of run c) 1 legal refl;
       act_entered = λ act a replica epoch on served. k.entered act a (replica, epoch, on) served;

@@ -1,7 +1,6 @@
 -- The events of a column of a legal run can happen: what is outside of the column meets the premises of its laws.
-use Rattle.std.proofs.Common.{◌≡◌, ◌⊎◌, ◌<◌, ◌≤◌, ℕ, ◌+◌, Bool, true, false, refl, arith, inl, inr, sym, ap, ◌∙◌, List, [], ◌∷◌, ◌++◌, Option, Some, None, subst, cond, not, ◌||◌, ◌&&◌, map, length}
-use Rattle.std.specs.Prelude.{slice_get, nat_le, nat_lt, is_some, option_map, find, ◌==◌}
-use Rattle.std.specs.List.{list_any}
+use Rattle.std.proofs.Common.{◌≡◌, ◌⊎◌, ◌<◌, ℕ, ◌+◌, Bool, true, false, refl, arith, inl, inr, sym, ap, ◌∙◌, List, [], ◌∷◌, ◌++◌, Option, Some, None, subst, cond, ◌||◌, ◌&&◌, map, length}
+use Rattle.std.specs.Prelude.{slice_get, nat_lt, option_map, find, ◌==◌}
 use Rattle.std.proofs.lemmas.Bool.Decides.{nat_tests}
 use Rattle.std.proofs.lemmas.Option.{slice_get-map}
 use Rattle.mk_lists.specs.Among.{Among}
@@ -28,24 +27,24 @@ use Rattle.mk_column.specs.Answers.{outcome_after}
 use Rattle.mk_column.specs.Logs.{EachEnabled, column_through, reading_ended}
 use Rattle.mk_epoch.specs.EpochState.{EpochState, ReplicaState, MadeBase, first_epochs, view_of, views_of, made_for, base_for}
 use Rattle.mk_epoch.specs.GlobalAnswers.{lacks}
-use Rattle.mk_epoch_laws.specs.Turns.{GlobalTurn, Always, AlwaysLater, EachAnswered, after_turns, WasEntered}
+use Rattle.mk_epoch_laws.specs.Turns.{Always, AlwaysLater, EachAnswered, after_turns, WasEntered}
 use Rattle.mk_epoch_laws.specs.WordLaws.{IsAt, PhaseFits, PhaseAndWord}
 use Rattle.mk_epoch_laws.specs.BaseLaws.{BasesHeld, BasesStay, ServingWasEntered}
-use Rattle.mk_merge_laws.proofs.ListLaws.{both_true, eqb-tells, eqb-same, find-some, some_same}
-use Rattle.mk_agreement.specs.Moments.{Moment, Event, StaysTaught, IsRound, EachHappens, IsReached, after_event, moment_through, step_done, past_begun, has_number, replicas_reset}
-use Rattle.mk_agreement.specs.Moments.Event.{NewRound, Doing}
+use Rattle.mk_merge_laws.proofs.ListLaws.{both_true, eqb-tells, find-some, some_same}
+use Rattle.mk_agreement.specs.Moments.{Moment, Event, IsRound, EachHappens, after_event, moment_through, step_done, past_begun, has_number, replicas_reset}
+use Rattle.mk_agreement.specs.Moments.Event.{Doing}
 use Rattle.mk_history.specs.declared.RoundLog.{RoundLog}
 use Rattle.mk_history.specs.Histories.{History, clients_of, log_of}
 use Rattle.mk_history.specs.Legality.{IsLegal, IsLegalRound, EachRoundLegal}
-use Rattle.mk_history.specs.Wholes.{WholeState, first_state, last_state, setting_of, column_of, after_logs, after_round, state_through}
+use Rattle.mk_history.specs.Wholes.{WholeState, first_state, last_state, setting_of, after_logs, after_round, state_through}
 use Rattle.mk_history.specs.Teaching.{entered_round, entered_from, stands_in}
-use Rattle.mk_run_laws.specs.RunEvents.{emptied_in, events_from, events_of, start_of, turns_of, turns_from, IsMomentOf}
+use Rattle.mk_run_laws.specs.RunEvents.{emptied_in, events_from, events_of, start_of, turns_of, turns_from}
 use Rattle.mk_run_laws.specs.TaughtIn.{taught_in, teaches, was_entered, is_same_outcome}
-use Rattle.mk_run_laws.specs.RunLaws.{RunsReachMoments, TeachingStays}
+use Rattle.mk_run_laws.specs.RunLaws.{RunsReachMoments}
 use Rattle.mk_run_laws.proofs.Joined.{HasSetting, Begun, has_column, column_first, column_works, setting_begun, keeps_setting, next_begun, now_works, works, begins, setting_first, left_done, served_done}
-use Rattle.mk_run_laws.proofs.Lines.{after_turns-append, answered-later, state_through-append, legal-first, turns_from-append, lines_are_turns, rounds-lead, entered-found, entered_from-append}
+use Rattle.mk_run_laws.proofs.Lines.{after_turns-append, answered-later, state_through-append, legal-first, turns_from-append, lines_are_turns, entered-found, entered_from-append}
 use Rattle.mk_run_laws.proofs.SameOutcome.{outcome_same}
-use Rattle.mk_run_laws.proofs.Standing.{At, Stands, HasIt, IsPast, lines_stand}
+use Rattle.mk_run_laws.proofs.Standing.{At, Stands, IsPast, lines_stand}
 
 -- ---- lists of events
 
@@ -201,7 +200,7 @@ module _ (run : History) (legal : IsLegal run) (c : ℕ) (lt : c < run.columns)
         let split_turns : turns_of run run.rounds ≡ turns ++ more = ap (turns_of run) split ∙ all in
         let answered_more = answered-later (first_epochs run.faults) turns more (subst (EachAnswered (first_epochs run.faults)) split_turns whole.0) in
         let late : after_turns early more ≡ (last_state run).epochs =
-            sym (after_turns-append (first_epochs run.faults) turns more) ∙ ap (after_turns (first_epochs run.faults)) (sym split_turns) ∙ whole.1 in
+        sym (after_turns-append (first_epochs run.faults) turns more) ∙ ap (after_turns (first_epochs run.faults)) (sym split_turns) ∙ whole.1 in
         let stays = (stay run.faults turns more answered answered_more found.0 found.1).0 in
         let there = subst (λ (s : EpochState). Among found.0 s.made) late stays in
         let was = entered_then (entered run.faults turns answered r x here serving) in
@@ -285,13 +284,13 @@ module _ (run : History) (legal : IsLegal run) (c : ℕ) (lt : c < run.columns)
         setting = keeps_setting run c state emptied round m h.setting;
         begun = next_begun run c state emptied round m h.setting h.begun;
         idle =
-          ap (λ (col : ColumnState). col.work) (column_works run c state emptied round m h.setting)
-          ∙ ap (λ (col : ColumnState). (column_through (setting_of run state) col log).work) (sym here)
-          ∙ (fine.logs c lt).finished;
+            ap (λ (col : ColumnState). col.work) (column_works run c state emptied round m h.setting)
+            ∙ ap (λ (col : ColumnState). (column_through (setting_of run state) col log).work) (sym here)
+            ∙ (fine.logs c lt).finished;
         now = now_works c state emptied round m ∙ ap (λ (n : ℕ). n + 1) h.now ∙ sym (length-one before round);
         stands = λ r e is.
             let k = lines_stand run round.globals (after_logs run round state) fine.globals e r (first.past.has_left r e)
-                (stands_begun before (round ∷ rest) split state emptied m h r e (ap (λ (f : ℕ → ℕ → Bool). f r e) (sym ever) ∙ is)) in
+            (stands_begun before (round ∷ rest) split state emptied m h r e (ap (λ (f : ℕ → ℕ → Bool). f r e) (sym ever) ∙ is)) in
             (k.0, k.1, subst (λ (b : Bool). Stands e (b || has_number (emptied_in round.globals) r) k.0) (ap (λ (f : ℕ → ℕ → Bool). f r e) (sym left)) k.2);
         served = λ r e is.
             ap (λ (f : ℕ → ℕ → Bool). f r e) ever
@@ -307,14 +306,13 @@ module _ (run : History) (legal : IsLegal run) (c : ℕ) (lt : c < run.columns)
       let next = works c state emptied round m in
       let here = has_column state c (reading_ended (replicas_reset emptied m.column)) h.begun in
       let enabled = subst (λ (col : ColumnState). EachEnabled (setting_of run state) col log) here ((fine.0).logs c lt).enabled in
-      let enabled_here = subst (λ (s : Setting). EachEnabled s first.column log) (sym (setting_begun run state emptied m h.setting)) enabled in
-      (
+      let enabled_here = subst (λ (s : Setting). EachEnabled s first.column log) (sym (setting_begun run state emptied m h.setting)) enabled in (
         is_round before (round ∷ rest) split state emptied m h,
         happens-join run first (map Doing log) (events_from c run (after_round run round state) (emptied_in round.globals) rest) (log_happens run first log enabled_here)
-        (
-          happens_from (before ++ round ∷ []) rest (split ∙ append-one before round rest) (after_round run round state) (emptied_in round.globals) next fine.1
-          (next_before before round rest split state emptied m fine.0 h)
-        ),
+            (
+            happens_from (before ++ round ∷ []) rest (split ∙ append-one before round rest) (after_round run round state) (emptied_in round.globals) next fine.1
+            (next_before before round rest split state emptied m fine.0 h)
+            ),
       )
 
   happens_all : EachHappens (taught_in run) (start_of run c) (events_of run c run.rounds)

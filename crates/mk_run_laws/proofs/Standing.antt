@@ -1,5 +1,5 @@
 -- Where a replica stands to an epoch that it once served: it has it still, or it is past it for good.
-use Rattle.std.proofs.Common.{◌≡◌, ◌⊎◌, ◌<◌, ◌≤◌, ℕ, Bool, true, false, refl, arith, inl, inr, sym, ap, ◌∙◌, List, [], ◌∷◌, ◌++◌, Option, Some, None, subst, cond, not, ◌||◌, ◌&&◌}
+use Rattle.std.proofs.Common.{◌≡◌, ◌⊎◌, ◌<◌, ◌≤◌, ℕ, Bool, true, false, refl, arith, inl, inr, sym, ap, ◌∙◌, List, [], ◌∷◌, ◌++◌, Option, Some, None, subst, cond, not, ◌||◌}
 use Rattle.std.specs.Prelude.{slice_get, slice_set, nat_le, nat_lt, is_some, ◌==◌}
 use Rattle.std.proofs.lemmas.Bool.Decides.{nat_tests}
 use Rattle.mk_merge.specs.declared.Phase.{Phase}
@@ -13,11 +13,11 @@ use Rattle.mk_global.specs.declared.GlobalAnswer.TheVariants.{Ok as Done, Unaske
 use Rattle.mk_epoch.specs.EpochState.{EpochState, ReplicaState, was_asked, made_for}
 use Rattle.mk_epoch.specs.GlobalAnswers.{global_answer, promise_answer, adopt_answer, is_too_old, lacks, is_accepted}
 use Rattle.mk_epoch.specs.GlobalSteps.{HandedIn, IsAnswer, global_after, change_replica, wiped, promised, with_promise, with_base, adopting, base_or_empty, serving, is_adopted, with_adoption, awaits_enter}
-use Rattle.mk_merge_laws.proofs.ListLaws.{same_or_not, eqb-same, both_true, slice_get-set_same, slice_get-set_other, slice_get-change, slice_get-changed, some_same}
+use Rattle.mk_merge_laws.proofs.ListLaws.{same_or_not, both_true, slice_get-set_same, slice_get-set_other, slice_get-change, slice_get-changed, some_same}
 use Rattle.mk_agreement.specs.Moments.{has_number}
 use Rattle.mk_history.specs.Histories.{History}
 use Rattle.mk_history.specs.Legality.{EachGlobalAnswered}
-use Rattle.mk_history.specs.Wholes.{WholeState, after_global, globals_through, after_line, handed_in}
+use Rattle.mk_history.specs.Wholes.{WholeState, after_global, globals_through, handed_in}
 use Rattle.mk_run_laws.specs.RunEvents.{emptied_by, emptied_in}
 
 -- the replica has the epoch

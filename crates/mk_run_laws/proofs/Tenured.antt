@@ -1,5 +1,5 @@
 -- The journal of a tenure replays from the cell of the epoch's base.
-use Rattle.std.proofs.Common.{◌≡◌, ◌⊎◌, ◌<◌, ◌≤◌, ℕ, ◌+◌, Bool, true, false, refl, arith, inl, inr, sym, ap, ◌∙◌, List, [], ◌∷◌, ◌++◌, Option, Some, None, subst, cond, not, ◌||◌, ◌&&◌, map, length}
+use Rattle.std.proofs.Common.{◌≡◌, ◌<◌, ◌≤◌, ℕ, ◌+◌, Bool, true, false, refl, arith, inl, inr, sym, ap, ◌∙◌, List, [], ◌∷◌, ◌++◌, Option, Some, subst, cond, not, ◌||◌, ◌&&◌, map, length}
 use Rattle.std.specs.Prelude.{slice_get, ◌==◌}
 use Rattle.mk_lists.specs.Among.{Each, Each-append}
 use Rattle.mk_cell.specs.declared.JournalEntry.{JournalEntry}
@@ -12,16 +12,16 @@ use Rattle.mk_global.specs.declared.GlobalEntry.{GlobalEntry}
 use Rattle.mk_epoch.specs.EpochState.{EpochState, ReplicaState, first_replica, made_for, base_for}
 use Rattle.mk_epoch.specs.GlobalAnswers.{global_answer, lacks, is_accepted}
 use Rattle.mk_epoch.specs.GlobalSteps.{IsAnswer, global_after, base_or_empty}
-use Rattle.mk_merge_laws.proofs.ListLaws.{same_or_not, append-none, append-later, eqb-tells, eqb-same, both_true, some_same}
+use Rattle.mk_merge_laws.proofs.ListLaws.{same_or_not, append-none, append-later, eqb-tells, eqb-same, some_same}
 use Rattle.mk_agreement.specs.Moments.{has_number}
 use Rattle.mk_history.specs.declared.RoundLog.{RoundLog}
 use Rattle.mk_history.specs.Histories.{History, journal_of}
-use Rattle.mk_history.specs.Legality.{EachGlobalAnswered, EachRoundLegal, IsLegalRound}
+use Rattle.mk_history.specs.Legality.{EachGlobalAnswered, EachRoundLegal}
 use Rattle.mk_history.specs.Wholes.{WholeState, first_state, cell_of, after_logs, after_global, after_line, globals_through, after_round, state_through, handed_in}
 use Rattle.mk_run_laws.specs.RunEvents.{emptied_by}
-use Rattle.mk_run_laws.specs.Tenures.{DatedEntry, dated_at, has_epoch, tenure_from, tenure_of, entries_in, IsReplayed, TenuresReplay, AreInOrder, TenuresAscend}
+use Rattle.mk_run_laws.specs.Tenures.{DatedEntry, dated_at, has_epoch, tenure_from, tenure_of, entries_in, TenuresReplay, AreInOrder, TenuresAscend}
 use Rattle.mk_run_laws.proofs.Standing.{At, Stands, HasIt, IsPast, line_stands, answer_given}
-use Rattle.mk_run_laws.proofs.Born.{NotIt, Born, line_born, global_made, globals_made, rounds_made}
+use Rattle.mk_run_laws.proofs.Born.{NotIt, line_born, global_made, globals_made, rounds_made}
 use Rattle.mk_run_laws.proofs.Cells.{LineCell, HasCell, has_cell, cell_first, cell_after_logs, cell_through-append, answered-join, line_cell, slice_get-replicate}
 
 -- ---- lists of entries
@@ -114,10 +114,10 @@ module _ (run : History) (r e key : ℕ) (lt : key < length run.key_names) (base
       by old c given (Never up h none) = elim (line_born state.epochs (handed_in state entry.line) e r entry.line given h) [
         | inl still ↦ Never up still none
         | inr born ↦ (let made = born.1 in
-          Now born.2 (
+            Now born.2 (
             c.taken e born.0 ∙ ap (λ (o : Option BaseState). rebuilt (base_or_empty o) key) made.1 ∙ ap (λ (b : BaseState). rebuilt b key) (fits up made.0 made.1)
             ∙ ap (cell_through opening) (sym none)
-          ))
+            ))
       ]
 
   kept_global : (state : WholeState) (entry : GlobalEntry) (journal : List JournalEntry) → IsAnswer state.epochs entry.line entry.answer → Fits state.epochs → Kept state journal →
@@ -158,7 +158,7 @@ module _ (run : History) (r e key : ℕ) (lt : key < length run.key_names) (base
           subst (Kept (after_logs run round state)) (sym (absent more x at (past_not e x h))) (done journal k.answered (Once (x, at, h)))
       by more is (Now (x, at, h) same) =
           let there : part (has_epoch e (slice_get state.epochs.replicas r)) more ≡ more =
-              ap (λ (o : Option ReplicaState). part (has_epoch e o) more) at ∙ ap (λ (b : Bool). part b more) (has_true e x h) in
+          ap (λ (o : Option ReplicaState). part (has_epoch e o) more) at ∙ ap (λ (b : Bool). part b more) (has_true e x h) in
           let answers = subst (λ (c : CellState). EachAnswered c (journal_of round r key)) (has_cell state r key k.cell k.has ∙ same) replays in
           subst (λ (t : List JournalEntry). Kept (after_logs run round state) (journal ++ t)) (is ∙ sym there)
           (done (journal ++ journal_of round r key) (answered-join opening journal (journal_of round r key) k.answered answers)
@@ -174,7 +174,7 @@ module _ (run : History) (r e key : ℕ) (lt : key < length run.key_names) (base
       let next = after_round run round state in
       let logs = kept_logs round state journal ((legal.0).journals r key rlt lt) k in
       let lines = kept_globals round.globals (after_logs run round state) (journal ++ part here more) (legal.0).globals
-          (λ up b made. fits up b (rounds_made e b run rounds next made)) logs in
+      (λ up b made. fits up b (rounds_made e b run rounds next made)) logs in
       let ended : Kept next (journal ++ part here more) = record { cell = lines.cell; has = lines.has; answered = lines.answered; tenured = same_epochs lines.cell (journal ++ part here more) lines.tenured } in
       let later = tenure_from r e key (n + 1) run next rounds in
       let split = entries_in-append (cond here (map (dated_at n) more) []) later ∙ ap (λ (es : List JournalEntry). es ++ entries_in later) (part_dated here n more) in
@@ -250,11 +250,10 @@ tenure_after r e key n k run state (round ∷ rounds) le =
 
 order_here : (n : ℕ) (journal : List JournalEntry) (later : List DatedEntry) → Each (λ (d : DatedEntry). n ≤ d.round) later → AreInOrder later → AreInOrder (map (dated_at n) journal ++ later)
 order_here n [] later from order = order
-order_here n (entry ∷ journal) later from order =
-    (
-      Each-append (λ (d : DatedEntry). n ≤ d.round) (map (dated_at n) journal) later (all_from n n journal (omega arith)) from,
-      order_here n journal later from order,
-    )
+order_here n (entry ∷ journal) later from order = (
+  Each-append (λ (d : DatedEntry). n ≤ d.round) (map (dated_at n) journal) later (all_from n n journal (omega arith)) from,
+  order_here n journal later from order,
+)
 
 order_part : (b : Bool) (n : ℕ) (journal : List JournalEntry) (later : List DatedEntry) → Each (λ (d : DatedEntry). n ≤ d.round) later → AreInOrder later →
     AreInOrder (cond b (map (dated_at n) journal) [] ++ later)

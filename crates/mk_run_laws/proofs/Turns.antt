@@ -1,5 +1,5 @@
 -- The key steps of a log and the entries of a journal, as acts with answers.
-use Rattle.std.proofs.Common.{◌≡◌, ◌⊎◌, ◌<◌, ◌≤◌, ℕ, Bool, true, false, refl, arith, inl, inr, sym, ap, ◌∙◌, List, [], ◌∷◌, ◌++◌, subst, cond, ◌&&◌, map}
+use Rattle.std.proofs.Common.{◌≡◌, ◌⊎◌, ℕ, Bool, true, false, refl, arith, inl, inr, sym, ap, ◌∙◌, List, [], ◌∷◌, subst, cond, ◌&&◌, map}
 use Rattle.std.specs.Prelude.{slice_get, ◌==◌}
 use Rattle.mk_lists.specs.Among.{Among, Among-append, Among-append_left, Among-append_right}
 use Rattle.mk_cell.specs.declared.JournalEntry.{JournalEntry}
@@ -12,7 +12,7 @@ use Rattle.mk_column.specs.Steps.{epoch_of}
 use Rattle.mk_merge_laws.proofs.ListLaws.{eqb-tells, eqb-same, both_true}
 use Rattle.mk_agreement.specs.Moments.{Moment, PastAct, Event, act_of, after_event, moment_through, step_done}
 use Rattle.mk_agreement.specs.Moments.Event.{NewRound, Doing}
-use Rattle.mk_history.specs.Matching.{Turn, with_turn, turns_in_log, turns_in_journal}
+use Rattle.mk_history.specs.Matching.{Turn, turns_in_log, turns_in_journal}
 
 abbrev pub turn : KeyCall → Answer → Turn
 turn call answer = record { act = call.act; answer = answer }
