@@ -1,22 +1,21 @@
 -- The events of a column lead to the column that the whole has.
-use Rattle.std.proofs.Common.{◌≡◌, ◌<◌, ℕ, zero, suc, ◌+◌, refl, arith, sym, ap, ◌∙◌, List, [], ◌∷◌, ◌++◌, Option, Some, None, subst, cond, Bool, true, false, map, length}
-use Rattle.std.specs.Prelude.{slice_get, slice_set, slice_index_or, option_map}
+use Rattle.std.proofs.Common.{◌≡◌, ◌<◌, ℕ, zero, suc, ◌+◌, refl, arith, sym, ap, ◌∙◌, List, [], ◌∷◌, ◌++◌, Some, cond, Bool, true, false, map, length}
+use Rattle.std.specs.Prelude.{slice_get, slice_index_or, option_map}
 use Rattle.std.proofs.lemmas.Option.{slice_get-map}
 use Rattle.mk_column.specs.declared.Step.{Step}
 use Rattle.mk_column.specs.ColumnState.{ColumnState, Setting, new_column, numbers_from}
-use Rattle.mk_column.specs.Steps.{column_after}
 use Rattle.mk_column.specs.Logs.{column_through, reading_ended, replica_reset}
 use Rattle.mk_global.specs.declared.GlobalEntry.{GlobalEntry}
 use Rattle.mk_global.specs.declared.GlobalLine.{GlobalLine}
 use Rattle.mk_global.specs.declared.GlobalLine.TheVariants.{Wipe, Ask, Promise, Merge, Adopt, Enter}
 use Rattle.mk_epoch.specs.EpochState.{views_of}
 use Rattle.mk_epoch.specs.GlobalAnswers.{is_accepted}
-use Rattle.mk_column_laws.specs.Moments.{Moment, Event, moment_through, after_event, step_done, round_begun, replicas_reset}
+use Rattle.mk_column_laws.specs.Moments.{Moment, Event, moment_through, after_event, step_done, replicas_reset}
 use Rattle.mk_column_laws.specs.Moments.Event.{NewRound, Doing}
 use Rattle.mk_history.specs.declared.RoundLog.{RoundLog}
 use Rattle.mk_history.specs.Histories.{History, clients_of, log_of}
 use Rattle.mk_history.specs.Wholes.{WholeState, first_state, setting_of, column_of, columns_after_logs, after_logs, after_line, after_global, globals_through, after_round, state_through}
-use Rattle.mk_run_laws.specs.RunEvents.{emptied_by, emptied_in, events_from, events_of, start_of, moment_of}
+use Rattle.mk_run_laws.specs.RunEvents.{emptied_by, emptied_in, events_from, start_of, moment_of}
 use Rattle.mk_run_laws.specs.RunLaws.{RoundsJoin, LinesReset}
 
 -- ---- lists
@@ -29,7 +28,7 @@ pub replicas_reset-append : (one other : List ℕ) (column : ColumnState) → re
 replicas_reset-append [] other column = refl
 replicas_reset-append (r ∷ one) other column = replicas_reset-append one other (replica_reset r column)
 
-slice_get-numbers : (n k c : ℕ) → c < n → slice_get (numbers_from k n) c ≡ Some (k + c)
+pub slice_get-numbers : (n k c : ℕ) → c < n → slice_get (numbers_from k n) c ≡ Some (k + c)
 slice_get-numbers zero k c lt = absurd (omega (arith, lt))
 slice_get-numbers (suc n) k zero lt = ap Some (omega arith)
 slice_get-numbers (suc n) k (suc c) lt = slice_get-numbers n (k + 1) c (omega (arith, lt)) ∙ ap Some (omega arith)

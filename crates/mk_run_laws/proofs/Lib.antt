@@ -4,3 +4,9 @@ pub mod Standing
 pub mod SameOutcome
 pub mod Reaching
 pub mod Teachings
+pub mod Cells
+pub mod Born
+pub mod Tenured
+pub mod Turns
+pub mod Matched
+pub mod Clashing

@@ -1,20 +1,19 @@
 -- The global lines of a run are turns with legal answers.
-use Rattle.std.proofs.Common.{◌≡◌, ◌⊎◌, ◌<◌, ℕ, zero, suc, ◌+◌, refl, arith, sym, ap, ◌∙◌, List, [], ◌∷◌, ◌++◌, Option, Some, None, subst, cond, ◌||◌, ◌&&◌, Bool, true, false, map, length, inl, inr}
-use Rattle.std.specs.Prelude.{◌==◌}
+use Rattle.std.proofs.Common.{◌≡◌, ◌⊎◌, ◌<◌, ℕ, ◌+◌, refl, arith, sym, ap, ◌∙◌, List, [], ◌∷◌, ◌++◌, Some, subst, cond, Bool, true, false, length, inl, inr}
 use Rattle.std.specs.List.{list_any}
 use Rattle.mk_global.specs.declared.GlobalEntry.{GlobalEntry}
 use Rattle.mk_global.specs.declared.GlobalLine.{GlobalLine}
 use Rattle.mk_global.specs.declared.GlobalLine.TheVariants.{Enter}
-use Rattle.mk_epoch.specs.EpochState.{EpochState, first_epochs}
+use Rattle.mk_epoch.specs.EpochState.{EpochState}
 use Rattle.mk_epoch.specs.GlobalAnswers.{is_accepted}
-use Rattle.mk_epoch_laws.specs.Turns.{GlobalTurn, after_turn, after_turns, EachAnswered, Enters, WasEntered}
+use Rattle.mk_epoch_laws.specs.Turns.{GlobalTurn, after_turn, after_turns, EachAnswered, WasEntered}
 use Rattle.mk_merge_laws.proofs.ListLaws.{eqb-same}
 use Rattle.mk_history.specs.declared.RoundLog.{RoundLog}
 use Rattle.mk_history.specs.Histories.{History}
-use Rattle.mk_history.specs.Legality.{EachGlobalAnswered, EachRoundLegal, IsLegal}
-use Rattle.mk_history.specs.Wholes.{WholeState, first_state, after_logs, after_line, after_global, globals_through, after_round, state_through}
+use Rattle.mk_history.specs.Legality.{EachGlobalAnswered, EachRoundLegal}
+use Rattle.mk_history.specs.Wholes.{WholeState, first_state, after_logs, after_global, globals_through, after_round, state_through}
 use Rattle.mk_history.specs.Teaching.{enters, entered_from}
-use Rattle.mk_run_laws.specs.RunEvents.{turn_of, turns_in, turns_from, turns_of}
+use Rattle.mk_run_laws.specs.RunEvents.{turns_in, turns_from}
 use Rattle.mk_run_laws.specs.RunLaws.{LinesAreTurns}
 
 -- ---- lists of turns

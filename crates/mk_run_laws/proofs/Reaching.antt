@@ -1,7 +1,6 @@
 -- The events of a column of a legal run can happen: what is outside of the column meets the premises of its laws.
-use Rattle.std.proofs.Common.{◌≡◌, ◌⊎◌, ◌<◌, ◌≤◌, ℕ, ◌+◌, Bool, true, false, refl, arith, inl, inr, sym, ap, ◌∙◌, List, [], ◌∷◌, ◌++◌, Option, Some, None, subst, cond, not, ◌||◌, ◌&&◌, map, length}
-use Rattle.std.specs.Prelude.{slice_get, nat_le, nat_lt, is_some, option_map, find, ◌==◌}
-use Rattle.std.specs.List.{list_any}
+use Rattle.std.proofs.Common.{◌≡◌, ◌⊎◌, ◌<◌, ℕ, ◌+◌, Bool, true, false, refl, arith, inl, inr, sym, ap, ◌∙◌, List, [], ◌∷◌, ◌++◌, Option, Some, None, subst, cond, ◌||◌, ◌&&◌, map, length}
+use Rattle.std.specs.Prelude.{slice_get, nat_lt, option_map, find, ◌==◌}
 use Rattle.std.proofs.lemmas.Bool.Decides.{nat_tests}
 use Rattle.std.proofs.lemmas.Option.{slice_get-map}
 use Rattle.mk_lists.specs.Among.{Among}
@@ -28,24 +27,24 @@ use Rattle.mk_column.specs.Answers.{outcome_after}
 use Rattle.mk_column.specs.Logs.{EachEnabled, column_through, reading_ended}
 use Rattle.mk_epoch.specs.EpochState.{EpochState, ReplicaState, MadeBase, first_epochs, view_of, views_of, made_for, base_for}
 use Rattle.mk_epoch.specs.GlobalAnswers.{lacks}
-use Rattle.mk_epoch_laws.specs.Turns.{GlobalTurn, Always, AlwaysLater, EachAnswered, after_turns, WasEntered}
+use Rattle.mk_epoch_laws.specs.Turns.{Always, AlwaysLater, EachAnswered, after_turns, WasEntered}
 use Rattle.mk_epoch_laws.specs.WordLaws.{IsAt, PhaseFits, PhaseAndWord}
 use Rattle.mk_epoch_laws.specs.BaseLaws.{BasesHeld, BasesStay, ServingWasEntered}
-use Rattle.mk_merge_laws.proofs.ListLaws.{both_true, eqb-tells, eqb-same, find-some, some_same}
-use Rattle.mk_column_laws.specs.Moments.{Moment, Event, StaysTaught, IsRound, EachHappens, IsReached, after_event, moment_through, step_done, past_begun, has_number, replicas_reset}
-use Rattle.mk_column_laws.specs.Moments.Event.{NewRound, Doing}
+use Rattle.mk_merge_laws.proofs.ListLaws.{both_true, eqb-tells, find-some, some_same}
+use Rattle.mk_column_laws.specs.Moments.{Moment, Event, IsRound, EachHappens, after_event, moment_through, step_done, past_begun, has_number, replicas_reset}
+use Rattle.mk_column_laws.specs.Moments.Event.{Doing}
 use Rattle.mk_history.specs.declared.RoundLog.{RoundLog}
 use Rattle.mk_history.specs.Histories.{History, clients_of, log_of}
 use Rattle.mk_history.specs.Legality.{IsLegal, IsLegalRound, EachRoundLegal}
-use Rattle.mk_history.specs.Wholes.{WholeState, first_state, last_state, setting_of, column_of, after_logs, after_round, state_through}
+use Rattle.mk_history.specs.Wholes.{WholeState, first_state, last_state, setting_of, after_logs, after_round, state_through}
 use Rattle.mk_history.specs.Teaching.{entered_round, entered_from, stands_in}
-use Rattle.mk_run_laws.specs.RunEvents.{emptied_in, events_from, events_of, start_of, turns_of, turns_from, IsMomentOf}
+use Rattle.mk_run_laws.specs.RunEvents.{emptied_in, events_from, events_of, start_of, turns_of, turns_from}
 use Rattle.mk_run_laws.specs.TaughtIn.{taught_in, teaches, was_entered, is_same_outcome}
-use Rattle.mk_run_laws.specs.RunLaws.{RunsReachMoments, TeachingStays}
+use Rattle.mk_run_laws.specs.RunLaws.{RunsReachMoments}
 use Rattle.mk_run_laws.proofs.Joined.{HasSetting, Begun, has_column, column_first, column_works, setting_begun, keeps_setting, next_begun, now_works, works, begins, setting_first, left_done, served_done}
-use Rattle.mk_run_laws.proofs.Lines.{after_turns-append, answered-later, state_through-append, legal-first, turns_from-append, lines_are_turns, rounds-lead, entered-found, entered_from-append}
+use Rattle.mk_run_laws.proofs.Lines.{after_turns-append, answered-later, state_through-append, legal-first, turns_from-append, lines_are_turns, entered-found, entered_from-append}
 use Rattle.mk_run_laws.proofs.SameOutcome.{outcome_same}
-use Rattle.mk_run_laws.proofs.Standing.{At, Stands, HasIt, IsPast, lines_stand}
+use Rattle.mk_run_laws.proofs.Standing.{At, Stands, IsPast, lines_stand}
 
 -- ---- lists of events
 
@@ -81,7 +80,7 @@ serving_phase Adopted e = absurd (cc e)
 serving_phase Lacking e = absurd (cc e)
 
 -- a view that serves an epoch is of a replica that serves it
-serves_at : (xs : List ReplicaState) (r e : ℕ) → serves e (slice_get (map view_of xs) r) ≡ true → (x : ReplicaState) × (slice_get xs r ≡ Some x) × (x.phase ≡ Serving) × (x.adopted ≡ e)
+pub serves_at : (xs : List ReplicaState) (r e : ℕ) → serves e (slice_get (map view_of xs) r) ≡ true → (x : ReplicaState) × (slice_get xs r ≡ Some x) × (x.phase ≡ Serving) × (x.adopted ≡ e)
 serves_at xs r e is = by (slice_get xs r) refl (subst (λ (o : Option ReplicaView). serves e o ≡ true) (slice_get-map view_of xs r) is)
   where
     by : (o : Option ReplicaState) → slice_get xs r ≡ o → serves e (option_map view_of o) ≡ true → (x : ReplicaState) × (slice_get xs r ≡ Some x) × (x.phase ≡ Serving) × (x.adopted ≡ e)

@@ -1,5 +1,5 @@
 -- Outcomes that are one pass the test, and only they.
-use Rattle.std.proofs.Common.{◌≡◌, ℕ, Bool, true, false, refl, arith, ap, sym, ◌∙◌, ◌&&◌}
+use Rattle.std.proofs.Common.{◌≡◌, Bool, true, refl, arith, ◌&&◌}
 use Rattle.std.specs.Prelude.{◌==◌}
 use Rattle.mk_txn.specs.declared.Stamp.{Stamp}
 use Rattle.mk_txn.specs.declared.Reason.{Reason}
@@ -11,7 +11,7 @@ use Rattle.mk_txn.specs.declared.Outcome.{Outcome}
 use Rattle.mk_txn.specs.declared.Outcome.TheVariants.{Commit, Abort}
 use Rattle.mk_txn.specs.Stamps.{same_stamp}
 use Rattle.mk_txn.specs.Outcomes.{agrees}
-use Rattle.mk_merge_laws.proofs.ListLaws.{eqb-same, eqb-tells, both_true}
+use Rattle.mk_merge_laws.proofs.ListLaws.{eqb-same}
 use Rattle.mk_run_laws.specs.TaughtIn.{is_same_reason, is_same_conflict, is_same_cause, is_same_outcome}
 
 both : (a b : Bool) → a ≡ true → b ≡ true → (a && b) ≡ true

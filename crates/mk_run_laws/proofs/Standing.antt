@@ -1,5 +1,5 @@
 -- Where a replica stands to an epoch that it once served: it has it still, or it is past it for good.
-use Rattle.std.proofs.Common.{◌≡◌, ◌⊎◌, ◌<◌, ◌≤◌, ℕ, Bool, true, false, refl, arith, inl, inr, sym, ap, ◌∙◌, List, [], ◌∷◌, ◌++◌, Option, Some, None, subst, cond, not, ◌||◌, ◌&&◌}
+use Rattle.std.proofs.Common.{◌≡◌, ◌⊎◌, ◌<◌, ◌≤◌, ℕ, Bool, true, false, refl, arith, inl, inr, sym, ap, ◌∙◌, List, [], ◌∷◌, ◌++◌, Option, Some, None, subst, cond, not, ◌||◌}
 use Rattle.std.specs.Prelude.{slice_get, slice_set, nat_le, nat_lt, is_some, ◌==◌}
 use Rattle.std.proofs.lemmas.Bool.Decides.{nat_tests}
 use Rattle.mk_merge.specs.declared.Phase.{Phase}
@@ -13,11 +13,11 @@ use Rattle.mk_global.specs.declared.GlobalAnswer.TheVariants.{Ok as Done, Unaske
 use Rattle.mk_epoch.specs.EpochState.{EpochState, ReplicaState, was_asked, made_for}
 use Rattle.mk_epoch.specs.GlobalAnswers.{global_answer, promise_answer, adopt_answer, is_too_old, lacks, is_accepted}
 use Rattle.mk_epoch.specs.GlobalSteps.{HandedIn, IsAnswer, global_after, change_replica, wiped, promised, with_promise, with_base, adopting, base_or_empty, serving, is_adopted, with_adoption, awaits_enter}
-use Rattle.mk_merge_laws.proofs.ListLaws.{same_or_not, eqb-same, both_true, slice_get-set_same, slice_get-set_other, slice_get-change, slice_get-changed, some_same}
+use Rattle.mk_merge_laws.proofs.ListLaws.{same_or_not, both_true, slice_get-set_same, slice_get-set_other, slice_get-change, slice_get-changed, some_same}
 use Rattle.mk_column_laws.specs.Moments.{has_number}
 use Rattle.mk_history.specs.Histories.{History}
 use Rattle.mk_history.specs.Legality.{EachGlobalAnswered}
-use Rattle.mk_history.specs.Wholes.{WholeState, after_global, globals_through, after_line, handed_in}
+use Rattle.mk_history.specs.Wholes.{WholeState, after_global, globals_through, handed_in}
 use Rattle.mk_run_laws.specs.RunEvents.{emptied_by, emptied_in}
 
 -- the replica has the epoch
@@ -37,7 +37,7 @@ abbrev pub At : (ReplicaState → Type 0) → ℕ → List ReplicaState → Type
 At P r xs = (x : ReplicaState) × (slice_get xs r ≡ Some x) × P x
 
 -- one place is set
-at_set : (P Q : ReplicaState → Type 0) (xs : List ReplicaState) (q : ℕ) (x y : ReplicaState) → slice_get xs q ≡ Some x → (r : ℕ) →
+pub at_set : (P Q : ReplicaState → Type 0) (xs : List ReplicaState) (q : ℕ) (x y : ReplicaState) → slice_get xs q ≡ Some x → (r : ℕ) →
     (r ≡ q → P x → Q y) → ((r ≡ q → ⊥) → (z : ReplicaState) → P z → Q z) → At P r xs → At Q r (slice_set xs q y)
 at_set P Q xs q x y at r here there (z, is, h) = elim (same_or_not r q) [
   | inl same ↦ (
@@ -49,7 +49,7 @@ at_set P Q xs q x y at r here there (z, is, h) = elim (same_or_not r q) [
 ]
 
 -- nothing is there at a place
-at_none : (P Q : ReplicaState → Type 0) (xs : List ReplicaState) (q : ℕ) → slice_get xs q ≡ None → (r : ℕ) → ((r ≡ q → ⊥) → (z : ReplicaState) → P z → Q z) → At P r xs → At Q r xs
+pub at_none : (P Q : ReplicaState → Type 0) (xs : List ReplicaState) (q : ℕ) → slice_get xs q ≡ None → (r : ℕ) → ((r ≡ q → ⊥) → (z : ReplicaState) → P z → Q z) → At P r xs → At Q r xs
 at_none P Q xs q none r there (z, is, h) = (z, is, there (λ same. absurd (cc (sym is ∙ ap (slice_get xs) same ∙ none))) z h)
 
 -- ---- the flag
@@ -110,7 +110,7 @@ adopted_stands e epoch base left flag x may h = let up = by h in inr (omega (ari
 
 -- ---- one line
 
-adopt_may : (state : EpochState) (epoch : ℕ) (x : ReplicaState) → is_accepted (adopt_answer state epoch (Some x)) ≡ true → is_too_old x epoch ≡ false
+pub adopt_may : (state : EpochState) (epoch : ℕ) (x : ReplicaState) → is_accepted (adopt_answer state epoch (Some x)) ≡ true → is_too_old x epoch ≡ false
 adopt_may state epoch x is = by (not (is_some (made_for epoch state))) (is_too_old x epoch) is
   where
     by : (a b : Bool) → is_accepted (cond a Unmade (cond b (Old x.word) Done)) ≡ true → b ≡ false
@@ -118,7 +118,7 @@ adopt_may state epoch x is = by (not (is_some (made_for epoch state))) (is_too_o
     by false true is = absurd (cc is)
     by false false is = refl
 
-promise_may : (state : EpochState) (epoch : ℕ) (x : ReplicaState) → is_accepted (promise_answer state epoch (Some x)) ≡ true → (lacks x.phase ≡ false) × (x.word < epoch)
+pub promise_may : (state : EpochState) (epoch : ℕ) (x : ReplicaState) → is_accepted (promise_answer state epoch (Some x)) ≡ true → (lacks x.phase ≡ false) × (x.word < epoch)
 promise_may state epoch x is = by (not (was_asked epoch state)) (lacks x.phase) refl (nat_le epoch x.word) refl is
   where
     by : (a b : Bool) → lacks x.phase ≡ b → (c : Bool) → nat_le epoch x.word ≡ c →
@@ -185,7 +185,7 @@ module _ (state : EpochState) (handed : HandedIn) (e r : ℕ) (left : Bool) wher
 
 -- ---- the lines of a round
 
-answer_given : (state : EpochState) (line : GlobalLine) (answer : GlobalAnswer) → IsAnswer state line answer → is_accepted answer ≡ true → is_accepted (global_answer state line) ≡ true
+pub answer_given : (state : EpochState) (line : GlobalLine) (answer : GlobalAnswer) → IsAnswer state line answer → is_accepted answer ≡ true → is_accepted (global_answer state line) ≡ true
 answer_given state line answer (inl k) is = ap is_accepted (sym k) ∙ is
 answer_given state line answer (inr fault) is = absurd (cc (sym (ap is_accepted fault.0) ∙ is))
 

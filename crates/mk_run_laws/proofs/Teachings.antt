@@ -1,24 +1,19 @@
 -- What the columns go by is what entered epochs taught, and it stays taught.
 use Rattle.std.proofs.Common.{◌≡◌, ◌<◌, ◌≤◌, ℕ, Bool, true, false, refl, arith, inl, inr, sym, ap, ◌∙◌, List, [], ◌∷◌, Option, Some, None, subst, cond, ◌&&◌, map}
 use Rattle.std.specs.Prelude.{nat_lt, find, option_map, ◌==◌}
-use Rattle.std.specs.List.{list_any}
 use Rattle.std.proofs.lemmas.Bool.Decides.{nat_tests}
 use Rattle.mk_lists.specs.Among.{Among, AllDistinct}
-use Rattle.mk_txn.specs.declared.TxnId.{TxnId}
-use Rattle.mk_txn.specs.declared.Outcome.{Outcome}
 use Rattle.mk_txn.proofs.ClashFacts.{member-from_list_any, list_any-from_member}
 use Rattle.mk_quorum.specs.Slots.{passes}
-use Rattle.mk_merge.specs.Bases.{BaseState, empty_base}
-use Rattle.mk_epoch.specs.EpochState.{EpochState, MadeBase, first_epochs, made_for, base_for}
+use Rattle.mk_merge.specs.Bases.{empty_base}
+use Rattle.mk_epoch.specs.EpochState.{EpochState, MadeBase, made_for, base_for}
 use Rattle.mk_epoch_laws.specs.Turns.{Always}
 use Rattle.mk_epoch_laws.specs.BaseLaws.{BasesMade}
-use Rattle.mk_merge_laws.proofs.ListLaws.{both_true, eqb-tells, eqb-same, Among-map}
-use Rattle.mk_history.specs.Histories.{History}
-use Rattle.mk_history.specs.Legality.{IsLegal}
+use Rattle.mk_merge_laws.proofs.ListLaws.{eqb-tells, eqb-same, Among-map}
 use Rattle.mk_history.specs.Wholes.{last_state}
 use Rattle.mk_history.specs.Teaching.{entered_round, stands_in}
 use Rattle.mk_run_laws.specs.RunEvents.{turns_of}
-use Rattle.mk_run_laws.specs.TaughtIn.{taught_in, teaches, was_entered, is_same_outcome}
+use Rattle.mk_run_laws.specs.TaughtIn.{teaches, was_entered, is_same_outcome}
 use Rattle.mk_run_laws.specs.RunLaws.{TeachingStays, TaughtMeans}
 use Rattle.mk_run_laws.proofs.Lines.{lines_are_turns}
 use Rattle.mk_run_laws.proofs.SameOutcome.{same_agrees}

@@ -2,3 +2,4 @@
 pub mod RunEvents
 pub mod TaughtIn
 pub mod RunLaws
+pub mod Tenures

@@ -4,6 +4,7 @@
 #![tactic(auto)]
 
 ghost use Rattle.mk_run_laws.specs.RunLaws.{RoundsJoin, LinesReset, LinesAreTurns, TeachingStays, TaughtMeans, RunsReachMoments, FactsInRuns, ActsInRuns, ReadsInRuns, OneDecisionInRuns, LearnedInRuns, IdsInRuns};
+ghost use Rattle.mk_run_laws.specs.Tenures.{TenuresReplay, TenuresAscend, TenuresMatch, ClashesGiveUp};
 
 /// A run is a list of events for each column, and a list of turns for its epoch changes.
 pub fn rounds_join()
@@ -37,4 +38,15 @@ pub fn columns_hold()
     mk_column_laws::stamps_name_attempts();
     mk_column_laws::views_agree();
     mk_column_laws::learnings_are_backed();
+}
+
+/// What a replica did with a key while it had an epoch's state replays from the cell that the epoch's base makes, and is
+/// what the columns did there.
+pub fn tenures_hold()
+    ensures tenures_replay { TenuresReplay }
+    ensures tenures_ascend { TenuresAscend }
+    ensures tenures_match { TenuresMatch }
+    ensures clashes_give_up { ClashesGiveUp }
+{
+    mk_basic_laws::cells_remember();
 }
