@@ -10,3 +10,4 @@ pub mod Tenured
 pub mod Turns
 pub mod Matched
 pub mod Clashing
+pub mod ClientNumbers
