@@ -1,5 +1,5 @@
 -- The clients of a column keep their numbers, and no two columns share one.
-use Rattle.std.proofs.Common.{◌≡◌, ◌<◌, ◌≤◌, ℕ, ◌+◌, Bool, true, false, refl, arith, inl, inr, sym, ap, ◌∙◌, List, [], ◌∷◌, ◌++◌, Option, Some, None, subst, cond, map}
+use Rattle.std.proofs.Common.{◌≡◌, ◌≤◌, ℕ, ◌+◌, Bool, true, false, refl, arith, inl, inr, sym, ap, ◌∙◌, List, [], ◌∷◌, Option, Some, None, cond, map}
 use Rattle.std.specs.Prelude.{slice_get, ◌==◌}
 use Rattle.mk_lists.specs.Among.{Among}
 use Rattle.mk_lists.specs.Changed.{change}
@@ -28,7 +28,7 @@ use Rattle.mk_column.specs.ColumnState.Work.{Idle, Fetching, Validating, Finishi
 use Rattle.mk_column.specs.Answers.{heard_of, listens, is_led}
 use Rattle.mk_column.specs.Learnings.{txn_of}
 use Rattle.mk_column.specs.Logs.{replica_reset}
-use Rattle.mk_column.specs.Steps.{column_after, epoch_of, stepped, stamped, ruled, picked, validated, answered, taken, replica_takes, begun, with_last_time}
+use Rattle.mk_column.specs.Steps.{epoch_of, stepped, stamped, ruled, picked, validated, answered, taken, replica_takes, begun, with_last_time}
 use Rattle.mk_column.proofs.Frames.{on_some-keeps, either_way}
 use Rattle.mk_merge_laws.proofs.ListLaws.{eqb-tells}
 use Rattle.mk_agreement.specs.Moments.{Moment, Event, after_event, moment_through, replicas_reset}

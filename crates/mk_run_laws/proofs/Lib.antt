@@ -11,3 +11,5 @@ pub mod Turns
 pub mod Matched
 pub mod Clashing
 pub mod ClientNumbers
+pub mod Ranges
+pub mod Voted
