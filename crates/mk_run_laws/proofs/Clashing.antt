@@ -6,11 +6,10 @@ use Rattle.mk_cell.specs.declared.Act.TheVariants.{CheckRead, CheckWrite, Releas
 use Rattle.mk_cell.specs.declared.JournalEntry.{JournalEntry}
 use Rattle.mk_cell.specs.Cells.{CellState}
 use Rattle.mk_cell.specs.Journals.{EachAnswered}
-use Rattle.mk_merge.specs.Rebuilding.{rebuilt}
 use Rattle.mk_merge_laws.proofs.ListLaws.{Among-mapped}
 use Rattle.mk_basic_laws.specs.CellMemory.{Done, ReadThenWrite, WriteThenRead}
 use Rattle.mk_run_laws.specs.Tenures.{DatedEntry, entries_in, tenure_of, AreInOrder, IsInBy, ClashesGiveUp}
-use Rattle.mk_run_laws.proofs.Tenured.{entries_in-append, tenures_replay, tenures_ascend}
+use Rattle.mk_run_laws.proofs.Tenured.{entries_in-append, tenure_answered, tenures_ascend}
 
 -- the one stands before the other
 pub record StandsBefore (one other : DatedEntry) (tenure : List DatedEntry) : Type 0 where
@@ -77,11 +76,12 @@ answered_so opening one other tenure s h =
     subst (EachAnswered opening) (ap entries_in s.whole ∙ entries_stand one other s.before s.middle s.rest) h
 
 pub clashes_give_up : ReadThenWrite → WriteThenRead → ClashesGiveUp
-clashes_give_up read_first write_first run rounds legal r e key rlt klt base is ts version other i j above below (d, a, at, act, answer) (w, b, at_other, act_other, answer_other) =
+clashes_give_up read_first write_first run rounds legal r e key rlt klt ts version other i j above below (d, a, at, act, answer) (w, b, at_other, act_other, answer_other) =
     let tenure = tenure_of run rounds r e key in
     let order = tenures_ascend run rounds r e key in
-    let opening = rebuilt base key in
-    let replays = (tenures_replay run rounds legal r e key rlt klt base is).answered in
+    let replayed = tenure_answered run rounds legal r e key rlt klt in
+    let opening = replayed.0 in
+    let replays = replayed.1 in
     elim (either_first d w tenure a b (λ same. apart (sym act ∙ ap (λ (x : DatedEntry). x.entry.act) same ∙ act_other))) [
       | inl s ↦ (
           let done = read_first opening (entries_in s.before) (entries_in s.middle) (entries_in s.rest) d.entry w.entry ts version other

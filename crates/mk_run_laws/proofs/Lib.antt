@@ -10,3 +10,6 @@ pub mod Tenured
 pub mod Turns
 pub mod Matched
 pub mod Clashing
+pub mod ClientNumbers
+pub mod Ranges
+pub mod Voted

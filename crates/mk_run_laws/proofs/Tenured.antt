@@ -1,5 +1,5 @@
 -- The journal of a tenure replays from the cell of the epoch's base.
-use Rattle.std.proofs.Common.{◌≡◌, ◌<◌, ◌≤◌, ℕ, ◌+◌, Bool, true, false, refl, arith, inl, inr, sym, ap, ◌∙◌, List, [], ◌∷◌, ◌++◌, Option, Some, subst, cond, not, ◌||◌, ◌&&◌, map, length}
+use Rattle.std.proofs.Common.{◌≡◌, ◌<◌, ◌≤◌, ℕ, ◌+◌, Bool, true, false, refl, arith, inl, inr, sym, ap, ◌∙◌, List, [], ◌∷◌, ◌++◌, Option, Some, None, subst, cond, not, ◌||◌, ◌&&◌, map, length}
 use Rattle.std.specs.Prelude.{slice_get, ◌==◌}
 use Rattle.mk_lists.specs.Among.{Each, Each-append}
 use Rattle.mk_cell.specs.declared.JournalEntry.{JournalEntry}
@@ -230,6 +230,26 @@ tenures_replay run rounds legal r e key rlt lt base is =
       answered = k.answered;
       leads = λ there. has_cell last r key k.cell k.has ∙ replayed_cell run r e key lt base last k.cell (entries_in (tenure_of run rounds r e key)) k.tenured there;
     }
+
+-- whatever the base, and also where none was made
+pub tenure_answered : (run : History) (rounds : List RoundLog) → EachRoundLegal run (first_state run) rounds → (r e key : ℕ) → r < members run.faults → key < length run.key_names →
+    (opening : CellState) × EachAnswered opening (entries_in (tenure_of run rounds r e key))
+tenure_answered run rounds legal r e key rlt lt = by (base_for e (state_through run (first_state run) rounds).epochs) refl
+  where
+    unmade : (n : ℕ) (state : EpochState) → base_for n state ≡ None → 0 < n → (b : BaseState) → made_for n state ≡ Some b → b ≡ empty_base
+    unmade n state none up b made = absurd (case (n == 0) refl none)
+      where
+        case : (x : Bool) → (n == 0) ≡ x → cond x (Some empty_base) (made_for n state) ≡ None → ⊥
+        case true k is = cc is
+        case false k is = cc (sym is ∙ made)
+
+    by : (o : Option BaseState) → base_for e (state_through run (first_state run) rounds).epochs ≡ o → (opening : CellState) × EachAnswered opening (entries_in (tenure_of run rounds r e key))
+    by (Some base) k = (rebuilt base key, (tenures_replay run rounds legal r e key rlt lt base k).answered)
+    by None k =
+        let fits = unmade e (state_through run (first_state run) rounds).epochs k in (
+          rebuilt empty_base key,
+          (kept_rounds run r e key lt empty_base rlt rounds 1 (first_state run) [] legal fits (first_kept run r e key rlt lt empty_base (λ _. refl))).answered,
+        )
 
 -- ---- rounds ascend
 

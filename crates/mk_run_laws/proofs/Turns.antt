@@ -53,7 +53,7 @@ turn_entry c t (x ∷ journal) a = by (x.seat == c) refl (turn_entry c t journal
 abbrev pub IsTurnOf : (r key : ℕ) → Turn → Step → Type 0
 IsTurnOf r key t step = (call : KeyCall) × ((answer : Answer) × ((step ≡ Key call answer) × (call.replica ≡ r) × (call.key ≡ key) × (turn call answer ≡ t)))
 
-first_turn : (r key : ℕ) (t : Turn) (step : Step) (log : List Step) → Among t (turns_in_log r key (step ∷ log)) → IsTurnOf r key t step ⊎ Among t (turns_in_log r key log)
+pub first_turn : (r key : ℕ) (t : Turn) (step : Step) (log : List Step) → Among t (turns_in_log r key (step ∷ log)) → IsTurnOf r key t step ⊎ Among t (turns_in_log r key log)
 first_turn r key t (Key call answer) log a = by (call.replica == r && call.key == key) refl a
   where
     by : (b : Bool) → (call.replica == r && call.key == key) ≡ b → Among t (cond b (turn call answer ∷ turns_in_log r key log) (turns_in_log r key log)) →

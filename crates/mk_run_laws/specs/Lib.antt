@@ -3,3 +3,4 @@ pub mod RunEvents
 pub mod TaughtIn
 pub mod RunLaws
 pub mod Tenures
+pub mod Voting

@@ -102,7 +102,6 @@ abbrev pub ClashesGiveUp : Type 0
 ClashesGiveUp =
     (run : History) (rounds : List RoundLog) → EachRoundLegal run (first_state run) rounds →
     (r epoch key : ℕ) → r < members run.faults → key < length run.key_names →
-    (base : BaseState) → base_for epoch (state_through run (first_state run) rounds).epochs ≡ Some base →
     (ts version other : Stamp) (i j : ℕ) → is_before version other ≡ true → is_before other ts ≡ true →
     IsIn (tenure_of run rounds r epoch key) i (CheckRead ts version) Okay → IsIn (tenure_of run rounds r epoch key) j (CheckWrite other) Okay →
     IsInBy (tenure_of run rounds r epoch key) j (ReleaseRead ts) ⊎ IsInBy (tenure_of run rounds r epoch key) i (ReleaseWrite other)

@@ -5,6 +5,7 @@
 
 ghost use Rattle.mk_run_laws.specs.RunLaws.{RoundsJoin, LinesReset, LinesAreTurns, TeachingStays, TaughtMeans, RunsReachMoments, FactsInRuns, ActsInRuns, ReadsInRuns, OneDecisionInRuns, LearnedInRuns, IdsInRuns};
 ghost use Rattle.mk_run_laws.specs.Tenures.{TenuresReplay, TenuresAscend, TenuresMatch, ClashesGiveUp};
+ghost use Rattle.mk_run_laws.specs.Voting.{ClashingVotes};
 
 /// A run is a list of events for each column, and a list of turns for its epoch changes.
 pub fn rounds_join()
@@ -49,4 +50,14 @@ pub fn tenures_hold()
     ensures clashes_give_up { ClashesGiveUp }
 {
     mk_basic_laws::cells_remember();
+}
+
+/// Of two attempts that clash, for both of which a replica voted Ok, it finished one with Abort, and early enough.
+pub fn votes_clash()
+    ensures { ClashingVotes }
+{
+    runs_reach_moments();
+    columns_hold();
+    tenures_hold();
+    mk_column_laws::key_acts_have_origins();
 }
