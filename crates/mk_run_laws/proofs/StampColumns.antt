@@ -1,5 +1,5 @@
 -- A stamp is of one column, since its client is.
-use Rattle.std.proofs.Common.{◌≡◌, ℕ, sym, ap, ◌∙◌, List, ◌++◌, Some, subst}
+use Rattle.std.proofs.Common.{◌≡◌, ℕ, sym, ◌∙◌, Some, subst}
 use Rattle.mk_lists.specs.Among.{Among}
 use Rattle.mk_txn.specs.declared.TxnId.{TxnId}
 use Rattle.mk_txn.specs.declared.Stamp.{Stamp}
@@ -13,13 +13,13 @@ use Rattle.mk_run_laws.specs.RunEvents.{start_of, IsMomentOf}
 use Rattle.mk_run_laws.specs.RunLaws.{IdsInRuns, StampsNameColumns}
 use Rattle.mk_run_laws.proofs.ClientNumbers.{numbers, numbers_through, numbers_first, one_column}
 
-numbers_then : (run : History) (c : ℕ) (m : Moment) → IsMomentOf run c m → numbers m.column.clients ≡ clients_of c 1 run.client_columns
+pub numbers_then : (run : History) (c : ℕ) (m : Moment) → IsMomentOf run c m → numbers m.column.clients ≡ clients_of c 1 run.client_columns
 numbers_then run c m k =
     let ns = clients_of c 1 run.client_columns in
     subst (λ (x : Moment). numbers x.column.clients ≡ ns) k.leads (numbers_through ns (start_of run c) k.events (numbers_first ns))
 
 -- the client in a stamp is one of the column's
-client_there : (run : History) (c : ℕ) (m : Moment) → IsMomentOf run c m → Identity m.column.clients m.column.attempts → (id : TxnId) (a : AttemptState) (txn : Transaction) →
+pub client_there : (run : History) (c : ℕ) (m : Moment) → IsMomentOf run c m → Identity m.column.clients m.column.attempts → (id : TxnId) (a : AttemptState) (txn : Transaction) →
     attempt_of m.column id ≡ Some a → a.txn ≡ Some txn → Among txn.stamp.client (clients_of c 1 run.client_columns)
 client_there run c m k h id a txn there stamped =
     let s = h.stamps id a txn there stamped in

@@ -12,8 +12,7 @@ use Rattle.mk_cell.specs.declared.Act.{Act}
 use Rattle.mk_cell.specs.declared.Act.TheVariants.{CheckRead, CheckWrite, ReleaseRead, ReleaseWrite}
 use Rattle.mk_cell.specs.declared.Answer.TheVariants.{Okay}
 use Rattle.mk_valid.specs.Checks.{checks}
-use Rattle.mk_column.specs.ColumnState.{ClientState, is_client}
-use Rattle.mk_merge_laws.proofs.ListLaws.{Among-map, append-later, find-some, eqb-tells}
+use Rattle.mk_merge_laws.proofs.ListLaws.{Among-map, append-later}
 use Rattle.mk_agreement.specs.Moments.{Moment, PastAct, PastEntry, Event}
 use Rattle.mk_agreement.specs.Moments.Event.{NewRound, Doing}
 use Rattle.mk_agreement.specs.KeyActs.{ActOrigin, act_at}
