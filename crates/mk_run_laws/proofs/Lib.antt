@@ -11,5 +11,6 @@ pub mod Turns
 pub mod Matched
 pub mod Clashing
 pub mod ClientNumbers
+pub mod StampColumns
 pub mod Ranges
 pub mod Voted

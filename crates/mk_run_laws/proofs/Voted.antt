@@ -12,8 +12,7 @@ use Rattle.mk_cell.specs.declared.Act.{Act}
 use Rattle.mk_cell.specs.declared.Act.TheVariants.{CheckRead, CheckWrite, ReleaseRead, ReleaseWrite}
 use Rattle.mk_cell.specs.declared.Answer.TheVariants.{Okay}
 use Rattle.mk_valid.specs.Checks.{checks}
-use Rattle.mk_column.specs.ColumnState.{ClientState, is_client}
-use Rattle.mk_merge_laws.proofs.ListLaws.{Among-map, append-later, find-some, eqb-tells}
+use Rattle.mk_merge_laws.proofs.ListLaws.{Among-map, append-later}
 use Rattle.mk_column_laws.specs.Moments.{Moment, PastAct, PastEntry, Event}
 use Rattle.mk_column_laws.specs.Moments.Event.{NewRound, Doing}
 use Rattle.mk_column_laws.specs.KeyActs.{ActOrigin, act_at}
@@ -33,7 +32,8 @@ use Rattle.mk_run_laws.specs.Tenures.{tenure_of, act_in, IsIn, IsInBy, TenuresMa
 use Rattle.mk_run_laws.specs.Voting.{VotedOk, IsAbortedBy, ClashingVotes}
 use Rattle.mk_run_laws.proofs.Lines.{legal-first}
 use Rattle.mk_run_laws.proofs.Ranges.{InRange, act_in_range, seat_in_range, each_first}
-use Rattle.mk_run_laws.proofs.ClientNumbers.{numbers_through, numbers_first, one_column}
+use Rattle.mk_run_laws.proofs.ClientNumbers.{one_column}
+use Rattle.mk_run_laws.proofs.StampColumns.{client_there}
 
 -- the events of the first rounds are the first events
 events_split : (c : ℕ) (run : History) (done later : List RoundLog) (state : WholeState) (emptied : List ℕ) →
@@ -103,12 +103,7 @@ module _ (stays : TeachingStays) (reach : RunsReachMoments) (facts : FactsInRuns
   client_of_stamp c lt r id entry there =
       let k = is_moment run done later split c in
       let f = (facts run legal c lt (then c) k).entries r id entry there in
-      let s = (ids run legal c lt (then c) k).stamps id f.attempt entry.txn f.found f.stamped in
-      let found = find-some (is_client id.client) (then c).column.clients s.client s.found in
-      let number = eqb-tells (s.client).number id.client found.1 in
-      let all = numbers_through (clients_of c 1 run.client_columns) (start_of run c) (events_of run c done) (numbers_first (clients_of c 1 run.client_columns)) in
-      subst (λ (n : ℕ). Among n (clients_of c 1 run.client_columns)) (number ∙ sym s.of_client)
-      (subst (Among (s.client).number) all (Among-map (λ (x : ClientState). x.number) s.client (then c).column.clients found.0))
+      client_there run c (then c) k (ids run legal c lt (then c) k) id f.attempt entry.txn f.found f.stamped
 
   -- a check that was let in for an Ok vote is in the tenure
   check_in : (c : ℕ) → c < run.columns → (r epoch : ℕ) (id : TxnId) (entry : PastEntry) (round : ℕ) → VotedOk (then c) r epoch id entry round → (key : ℕ) (act : Act) →

@@ -1,12 +1,13 @@
 -- The laws of runs.
-use Rattle.std.specs.Prelude.{◌≡◌, ◌<◌, ℕ, ◌+◌, true, List, [], ◌∷◌, ◌++◌, length}
+use Rattle.std.specs.Prelude.{◌≡◌, ◌<◌, ℕ, ◌+◌, true, List, [], ◌∷◌, ◌++◌, length, Some}
 use Rattle.mk_txn.specs.declared.TxnId.{TxnId}
 use Rattle.mk_txn.specs.declared.Outcome.{Outcome}
 use Rattle.mk_txn.specs.Outcomes.{agrees}
+use Rattle.mk_txn.specs.Transactions.{Transaction}
 use Rattle.mk_epoch.specs.EpochState.{first_epochs}
 use Rattle.mk_epoch_laws.specs.Turns.{after_turns, EachAnswered}
 use Rattle.mk_column_laws.specs.Moments.{Moment, Taught, StaysTaught, IsReached, replicas_reset}
-use Rattle.mk_column.specs.ColumnState.{AttemptState}
+use Rattle.mk_column.specs.ColumnState.{AttemptState, attempt_of}
 use Rattle.mk_column.specs.Deciding.{IsDecided}
 use Rattle.mk_column_laws.specs.Facts.{Facts}
 use Rattle.mk_column_laws.specs.Laws.{BackingOf}
@@ -86,3 +87,10 @@ LearnedInRuns = InRuns (λ taught m. (id : TxnId) → BackingOf taught m id)
 -- attempts are numbered, and stamps rise
 abbrev pub IdsInRuns : Type 0
 IdsInRuns = InRuns (λ taught m. Identity m.column.clients m.column.attempts)
+
+-- a stamp is of one column: attempts of two columns never have the same
+abbrev pub StampsNameColumns : Type 0
+StampsNameColumns =
+    (run : History) → IsLegal run → (c d : ℕ) → c < run.columns → d < run.columns → (m n : Moment) → IsMomentOf run c m → IsMomentOf run d n →
+    (id other : TxnId) (a b : AttemptState) (txn same : Transaction) → attempt_of m.column id ≡ Some a → attempt_of n.column other ≡ Some b →
+    a.txn ≡ Some txn → b.txn ≡ Some same → txn.stamp ≡ same.stamp → c ≡ d

@@ -3,7 +3,7 @@
 //! The functions do nothing: what they promise is the law. Where one calls another, its law rests on the other's.
 #![tactic(auto)]
 
-ghost use Rattle.mk_run_laws.specs.RunLaws.{RoundsJoin, LinesReset, LinesAreTurns, TeachingStays, TaughtMeans, RunsReachMoments, FactsInRuns, ActsInRuns, ReadsInRuns, OneDecisionInRuns, LearnedInRuns, IdsInRuns};
+ghost use Rattle.mk_run_laws.specs.RunLaws.{RoundsJoin, LinesReset, LinesAreTurns, TeachingStays, TaughtMeans, RunsReachMoments, FactsInRuns, ActsInRuns, ReadsInRuns, OneDecisionInRuns, LearnedInRuns, IdsInRuns, StampsNameColumns};
 ghost use Rattle.mk_run_laws.specs.Tenures.{TenuresReplay, TenuresAscend, TenuresMatch, ClashesGiveUp};
 ghost use Rattle.mk_run_laws.specs.Voting.{ClashingVotes};
 
@@ -32,6 +32,7 @@ pub fn columns_hold()
     ensures one_decision { OneDecisionInRuns }
     ensures learned { LearnedInRuns }
     ensures ids { IdsInRuns }
+    ensures stamps_name_columns { StampsNameColumns }
 {
     runs_reach_moments();
     mk_column_laws::events_are_sorted();

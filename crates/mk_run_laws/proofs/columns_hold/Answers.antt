@@ -13,6 +13,7 @@ use Rattle.mk_column_laws.specs.Moments.{Taught, Moment}
 use Rattle.mk_column_laws.specs.Laws.{AlwaysHolds}
 use Rattle.mk_run_laws.specs.RunLaws.{InRuns, TeachingStays, RunsReachMoments}
 use Rattle.mk_run_laws.specs.TaughtIn.{taught_in}
+use Rattle.mk_run_laws.proofs.StampColumns.{stamps_name_columns}
 use Rattle.mk_run_laws.proofs.columns_hold.Goals as goal
 
 in_runs : TeachingStays → RunsReachMoments → (P : Taught → Moment → Type 0) → AlwaysHolds P → InRuns P
@@ -30,5 +31,6 @@ returns c =
           (λ taught m. (id : TxnId) (one other : Outcome) → IsDecided m.round.faults m.column id one → IsDecided m.round.faults m.column id other → agrees one other ≡ true)
           c.views_agree.ensures.one_decision;
       learned = in_runs stays reach (λ taught m. (id : TxnId) → BackingOf taught m id) c.learnings_are_backed.ensures.learned_backed;
+      stamps_name_columns = stamps_name_columns (in_runs stays reach (λ taught m. Identity m.column.clients m.column.attempts) c.stamps_name_attempts.ensures.ids_once);
       ids = in_runs stays reach (λ taught m. Identity m.column.clients m.column.attempts) c.stamps_name_attempts.ensures.ids_once;
     }
