@@ -9,6 +9,7 @@ pub mod Born
 pub mod Tenured
 pub mod Turns
 pub mod Matched
+pub mod Following
 pub mod Clashing
 pub mod ClientNumbers
 pub mod StampColumns

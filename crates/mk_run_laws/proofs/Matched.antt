@@ -29,7 +29,7 @@ served_in_done m [] = refl
 served_in_done m (step ∷ log) = served_in_done (step_done step m) log
 
 -- a replica with the epoch's state is seen in that epoch
-seen_in : (e : ℕ) (xs : List ReplicaState) (r : ℕ) → has_epoch e (slice_get xs r) ≡ true → epoch_of (slice_get (map view_of xs) r) ≡ e
+pub seen_in : (e : ℕ) (xs : List ReplicaState) (r : ℕ) → has_epoch e (slice_get xs r) ≡ true → epoch_of (slice_get (map view_of xs) r) ≡ e
 seen_in e xs r is = ap epoch_of (slice_get-map view_of xs r) ∙ by (slice_get xs r) is
   where
     by : (o : Option ReplicaState) → has_epoch e o ≡ true → epoch_of (option_map view_of o) ≡ e

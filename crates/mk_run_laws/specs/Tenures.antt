@@ -88,6 +88,25 @@ TenuresMatch =
     (run : History) (rounds : List RoundLog) → EachRoundLegal run (first_state run) rounds →
     (c r epoch key : ℕ) → c < run.columns → r < members run.faults → key < length run.key_names → IsMatchedTo run rounds c r epoch key
 
+-- the entries of a column, as its acts
+abbrev pub acts_in : (c r epoch key : ℕ) → List DatedEntry → List PastAct
+acts_in c r epoch key [] = []
+acts_in c r epoch key (d ∷ tenure) =
+    if d.entry.seat == c then act_in r epoch key d ∷ acts_in c r epoch key tenure else acts_in c r epoch key tenure
+
+-- a list stands in another in the same order, with others between
+abbrev pub StandsIn : {X : Type 0} → List X → List X → Type 0
+StandsIn [] ys = Unit {0}
+StandsIn (x ∷ xs) [] = ⊥
+StandsIn (x ∷ xs) (y ∷ ys) = ((y ≡ x) × StandsIn xs ys) ⊎ StandsIn (x ∷ xs) ys
+
+-- a column's entries of a tenure stand in the order of its acts
+abbrev pub TenuresFollow : Type 0
+TenuresFollow =
+    (run : History) (rounds : List RoundLog) → EachRoundLegal run (first_state run) rounds →
+    (c r epoch key : ℕ) → c < run.columns → r < members run.faults → key < length run.key_names →
+    StandsIn (acts_in c r epoch key (tenure_of run rounds r epoch key)) (moment_of run c rounds).past.acts
+
 -- a tenure has this act with this answer, in this round
 abbrev pub IsIn : List DatedEntry → ℕ → Act → Answer → Type 0
 IsIn tenure round act answer = (d : DatedEntry) × Among d tenure × (d.round ≡ round) × (d.entry.act ≡ act) × (d.entry.answer ≡ answer)

@@ -4,7 +4,7 @@
 #![tactic(auto)]
 
 ghost use Rattle.mk_run_laws.specs.RunLaws.{RoundsJoin, LinesReset, LinesAreTurns, TeachingStays, TaughtMeans, RunsReachMoments, FactsInRuns, ActsInRuns, ReadsInRuns, OneDecisionInRuns, LearnedInRuns, IdsInRuns, StampsNameColumns};
-ghost use Rattle.mk_run_laws.specs.Tenures.{TenuresReplay, TenuresAscend, TenuresMatch, ClashesGiveUp};
+ghost use Rattle.mk_run_laws.specs.Tenures.{TenuresReplay, TenuresAscend, TenuresMatch, TenuresFollow, ClashesGiveUp};
 ghost use Rattle.mk_run_laws.specs.Voting.{ClashingVotes};
 
 /// A run is a list of events for each column, and a list of turns for its epoch changes.
@@ -48,6 +48,7 @@ pub fn tenures_hold()
     ensures tenures_replay { TenuresReplay }
     ensures tenures_ascend { TenuresAscend }
     ensures tenures_match { TenuresMatch }
+    ensures tenures_follow { TenuresFollow }
     ensures clashes_give_up { ClashesGiveUp }
 {
     mk_basic_laws::cells_remember();
