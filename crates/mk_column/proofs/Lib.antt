@@ -2,3 +2,9 @@ pub mod Frames
 mod OneRun
 mod MovedRows
 mod MarkRows
+pub mod ReplicaLaws
+pub mod TableLaws
+pub mod TurnOrder
+pub mod NumberOrder
+pub mod ColumnLaws
+pub mod StampLaws

@@ -8,3 +8,9 @@ pub mod Steps
 pub mod Logs
 pub mod Sending
 pub mod Deciding
+pub mod HeldByCode
+pub mod Tables
+pub mod AttemptsByCode
+pub mod TakeoversByCode
+pub mod ClientsByCode
+pub mod ColumnByCode

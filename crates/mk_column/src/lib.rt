@@ -1,9 +1,26 @@
 //! One core number on all replicas, with its clients, records, marks and messages.
 #![tactic(auto)]
 
+ghost use Rattle.std.specs.Prelude.{◌≡◌, ◌==◌};
+ghost use Rattle.std.specs.List.{list_any};
+ghost use Rattle.mk_txn.specs.Transactions.{are_distinct as keys_differ, write_keys};
+
+mod attempts;
+mod backup;
+mod begun;
+mod clients;
+mod column;
+mod conditions;
+mod learned;
+mod replica;
+mod takeovers;
+mod work;
+
+pub use column::Column;
 use mk_cell::{Act, Answer};
 pub use mk_merge::{Phase, ReplicaView};
 use mk_txn::{NoMemory, Outcome, ReadItem, Txn, TxnId, WriteItem};
+use std::alloc::Global;
 use std::marker::Model;
 
 /// An act that a column wants done at a key of a replica.
@@ -29,6 +46,52 @@ impl Model for Reads {
     ghost view = { λ reads. reads.items.items };
 }
 
+impl Reads {
+    ghost use Rattle.std.specs.Prelude.{◌≡◌, ◌&&◌, ◌==◌, ◌++◌, ◌∷◌, [], not, nat_lt, length, OnOk, OnErr};
+    ghost use Rattle.std.specs.List.{list_any};
+
+    fn new(alloc: Global) -> Reads
+        ensures { result ≡ [] }
+    {
+        Reads {
+            items: Vec::new(alloc),
+        }
+    }
+
+    fn has(&self, key: u32) -> bool
+        ensures { result ≡ list_any (λ item. item.key == key) self.now }
+    {
+        self.items.iter().any(|item| item.key == key)
+    }
+
+    // Whether the key was not read yet, and fewer than 16 were.
+    fn may_take(&self, key: u32) -> bool
+        ensures { result ≡ (not (list_any (λ item. item.key == key) self.now) && nat_lt (length self.now) 16) }
+    {
+        !self.has(key) && self.items.len() < 16
+    }
+
+    fn is_empty(&self) -> bool
+        ensures { result ≡ (length self.now == 0) }
+    {
+        self.items.len() == 0
+    }
+
+    fn as_slice(&self) -> &[ReadItem]
+        ensures { result.now ≡ self.now }
+    {
+        self.items.as_slice()
+    }
+
+    fn push(&mut self, item: ReadItem) -> Result<(), NoMemory>
+        ensures ok { OnOk result (self.new ≡ self.old ++ item ∷ []) }
+        ensures err { OnErr result (self.new ≡ self.old) }
+    {
+        self.items.push(item)?;
+        Ok(())
+    }
+}
+
 /// The writes of an attempt, in order of mention.
 #[derive(Drop, Debug)]
 pub struct Writes {
@@ -42,6 +105,48 @@ impl Model for Writes {
     ghost Value = { List WriteItem };
 
     ghost view = { λ writes. writes.items.items };
+}
+
+impl Writes {
+    ghost use Rattle.std.specs.Prelude.{◌≡◌, ◌&&◌, ◌==◌, nat_lt, nat_le, length};
+    ghost use Rattle.std.specs.List.{list_all};
+    ghost use Rattle.mk_column.specs.Conditions.{writes_fit};
+
+    fn is_empty(&self) -> bool
+        ensures { result ≡ (length self.now == 0) }
+    {
+        self.items.len() == 0
+    }
+
+    // Whether each key is one of so many.
+    fn are_below(&self, keys: u32) -> bool
+        ensures { result ≡ list_all (λ item. nat_lt item.key keys) self.now }
+    {
+        self.items.iter().all(|item| item.key < keys)
+    }
+
+    // At most 16 writes of different keys, each of which there is.
+    fn fit(&self, keys: u32) -> bool
+        ensures { result ≡ writes_fit keys self.now }
+    {
+        self.items.len() <= 16 && are_distinct(&self.items) && self.are_below(keys)
+    }
+}
+
+// Whether no key is written twice.
+fn are_distinct(items: &[WriteItem]) -> bool
+    ensures { result ≡ keys_differ (write_keys items.now) }
+{
+    let Some((first, rest)) = items.split_first() else {
+        return true;
+    };
+    !has_key(rest, first.key) && are_distinct(rest)
+}
+
+fn has_key(items: &[WriteItem], key: u32) -> bool
+    ensures { result ≡ list_any (λ item. item.key == key) items.now }
+{
+    items.iter().any(|item| item.key == key)
 }
 
 /// One step of a column.

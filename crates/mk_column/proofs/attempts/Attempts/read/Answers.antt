@@ -1,0 +1,37 @@
+use Rattle.std.proofs.Common.{rules, ◌≡◌, ◌++◌, ◌∷◌, [], ap, ◌∙◌, refl}
+use Rattle.std.specs.Prelude.{slice_set}
+use Rattle.mk_txn.specs.Transactions.{same_id, id_cmp}
+use Rattle.mk_txn.proofs.IdOrder.{same_id-tells, same_id-itself, id_cmp-equal}
+use Rattle.mk_txn.specs.declared.ReadItem.{ReadItem}
+use Rattle.mk_column.specs.AttemptsByCode.{BegunView, begun_id, on_state, change_begun}
+use Rattle.mk_column.proofs.TableLaws.{written-changes, written-same, IsIndexed-changed}
+use Rattle.mk_column.proofs.attempts.Attempts.read.Goals as goal
+
+abbrev step : ReadItem → BegunView → BegunView
+step item = on_state (λ a. record a { reads = a.reads ++ item ∷ [] })
+
+pub invariant_of-self-2 : goal.invariant_of-self-2
+invariant_of-self-2 c =
+    let f = step c.args.item in
+    let items = c.self.inside.items.items in
+    let set : slice_set items c.place-place.result c.read.new.self ≡ change_begun c.args.id f items =
+    ap (slice_set items c.place-place.result) c.in_ok-read.ensures.ok ∙ written-changes same_id id_cmp begun_id same_id-tells same_id-itself id_cmp-equal c.args.id f items c.args.self.now c.place-place.result c.index_mut.result.now c.self.view_is c.index_mut.ensures.value c.place-place.ensures.changed in
+    IsIndexed-changed same_id id_cmp begun_id same_id-tells same_id-itself id_cmp-equal c.args.id f (λ begun. refl) items _ _ set c.self.invariant
+
+pub returns-clause-ok : goal.returns-clause-ok
+returns-clause-ok c =
+    let f = step c.args.item in
+    let items = c.self.inside.items.items in
+    ap (slice_set items c.place-place.result) c.in_ok-read.ensures.ok ∙ written-changes same_id id_cmp begun_id same_id-tells same_id-itself id_cmp-equal c.args.id f items c.args.self.now c.place-place.result c.index_mut.result.now c.self.view_is c.index_mut.ensures.value c.place-place.ensures.changed
+    ∙ ap (change_begun c.args.id f) c.self.view_is
+
+pub invariant_of-self : goal.invariant_of-self
+invariant_of-self c =
+    let same : slice_set c.self.inside.items.items c.place-place.result c.read.new.self ≡ c.self.inside.items.items = written-same same_id id_cmp begun_id same_id-tells same_id-itself id_cmp-equal c.self.inside.items.items c.place-place.result c.index_mut.result.now c.read.new.self c.in_err-read.ensures.err c.index_mut.ensures.value in
+    rw same c.self.invariant
+
+pub returns-in_err-read-clause-err : goal.returns-in_err-read-clause-err
+returns-in_err-read-clause-err c =
+    let same : slice_set c.self.inside.items.items c.place-place.result c.read.new.self ≡ c.args.self.now =
+    written-same same_id id_cmp begun_id same_id-tells same_id-itself id_cmp-equal c.self.inside.items.items c.place-place.result c.index_mut.result.now c.read.new.self c.in_err-read.ensures.err c.index_mut.ensures.value ∙ c.self.view_is in
+    search rules

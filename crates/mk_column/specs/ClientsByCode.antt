@@ -1,0 +1,39 @@
+-- What the code keeps of a client.
+use Rattle.std.specs.Prelude.{ℕ, Bool, ◌==◌, false, List, Option, find, map, option_map, option_copied}
+use Rattle.std.specs.Borrow.{Bor}
+use Rattle.mk_lists.specs.Changed.{change}
+use Rattle.mk_column.specs.declared.clients.Client.{Client}
+use Rattle.mk_column.specs.ColumnState.{ClientState}
+
+-- a client that has begun nothing
+abbrev pub fresh_client : ℕ → Client
+fresh_client number = record { number = number; last_time = 0; next_seq = 1; heard = 0; reading = false }
+
+-- the client's number
+abbrev pub number_of : Client → ℕ
+number_of client = client.number
+
+-- whether two numbers are one
+abbrev pub same_number : ℕ → ℕ → Bool
+same_number a b = a == b
+
+-- the client of this number
+abbrev pub kept_client : ℕ → List Client → Option Client
+kept_client number all = find (λ client. client.number == number) all
+
+-- the client of this number is changed, and no other
+abbrev pub change_kept : ℕ → (Client → Client) → List Client → List Client
+change_kept number f all = change (λ client. client.number == number) f all
+
+-- a client as the definitions have it
+abbrev pub client_state : Client → ClientState
+client_state client =
+    record { number = client.number; last_time = client.last_time; next_seq = client.next_seq; heard = client.heard }
+
+-- the clients as the definitions have them
+abbrev pub client_states : List Client → List ClientState
+client_states all = map client_state all
+
+-- a client that was looked up, as the definitions have it
+abbrev pub seen_client : Option (Bor Client) → Option ClientState
+seen_client client = option_map client_state (option_copied client)

@@ -1,0 +1,102 @@
+-- What the code keeps of a column, and what contracts see of it.
+use Rattle.std.specs.Prelude.{◌≡◌, ℕ, ◌<◌, ◌≤◌, ◌^◌, Bool, false, ◌==◌, ◌||◌, ◌&&◌, List, length, map, find, option_map, Option, None, Some}
+use Rattle.std.specs.List.{list_any}
+use Rattle.mk_lists.specs.Among.{Each}
+use Rattle.mk_txn.specs.declared.TxnId.{TxnId}
+use Rattle.mk_txn.specs.declared.Outcome.{Outcome}
+use Rattle.mk_txn.specs.Transactions.{Transaction}
+use Rattle.mk_msg.specs.declared.Msg.{Msg}
+use Rattle.mk_quorum.specs.Sizes.{members}
+use Rattle.mk_quorum.specs.Slots.{passes}
+use Rattle.mk_trim.specs.SettledAttempts.{SettledAttempts, is_settled as is_kept_settled}
+use Rattle.mk_column.specs.declared.Step.{Step}
+use Rattle.mk_column.specs.declared.clients.Client.{Client}
+use Rattle.mk_column.specs.declared.work.Work.{Work as KeptWork}
+use Rattle.mk_column.specs.declared.learned.Way.{Way as KeptWay}
+use Rattle.mk_column.specs.declared.learned.Way.TheVariants.{Votes, Accepts, Pick, Moved, Telling, Finishing}
+use Rattle.mk_column.specs.declared.learned.Learned.{Learned}
+use Rattle.mk_column.specs.ColumnState.{Setting, ColumnState, Learning, Way, is_settled}
+use Rattle.mk_column.specs.ColumnState.Way.{ByVotes, ByAccepts, ByPick, ByMoved, ByTelling, ByFinishing}
+use Rattle.mk_column.specs.Replicas.{Held}
+use Rattle.mk_column.specs.Conditions.{is_validate_of}
+use Rattle.mk_column.specs.Learnings.{is_decision_of}
+use Rattle.mk_column.specs.HeldByCode.{work_of}
+use Rattle.mk_column.specs.AttemptsByCode.{BegunView, begun_of, states_of}
+use Rattle.mk_column.specs.TakeoversByCode.{BackupView, takeovers_of}
+use Rattle.mk_column.specs.ClientsByCode.{client_states}
+
+-- a column, as contracts see it: its number, the round's setting, its state, and the steps since the log was taken
+pub record ColumnView : Type 0 where
+  pub number : ℕ
+  pub setting : Setting
+  pub state : ColumnState
+  pub log : List Step
+
+-- how an outcome was learned
+abbrev pub way_of : KeptWay → Way
+way_of Votes = ByVotes
+way_of Accepts = ByAccepts
+way_of (Pick view) = ByPick view
+way_of (Moved epoch) = ByMoved epoch
+way_of Telling = ByTelling
+way_of Finishing = ByFinishing
+
+-- what was learned
+abbrev pub learning_of_kept : Learned → Learning
+learning_of_kept learned = record { id = learned.id; outcome = learned.outcome; way = way_of learned.way }
+
+-- the parts of a column that change in its steps
+pub record Kept : Type 0 where
+  pub clients : List Client
+  pub attempts : List BegunView
+  pub takeovers : List BackupView
+  pub replicas : List Held
+  pub link : List Msg
+  pub work : KeptWork
+  pub learned : List Learned
+
+-- the column of these parts
+abbrev pub column_of : Kept → ColumnState
+column_of kept =
+    record {
+      clients = client_states kept.clients;
+      attempts = states_of kept.attempts;
+      takeovers = takeovers_of kept.takeovers;
+      records = map (λ held. held.entries) kept.replicas;
+      marks = map (λ held. held.marks) kept.replicas;
+      link = kept.link;
+      work = work_of kept.work;
+      learned = map learning_of_kept kept.learned;
+    }
+
+-- an attempt of this client is reading
+abbrev pub has_reading : ℕ → List BegunView → Bool
+has_reading client attempts = list_any (λ begun. begun.state.reading && begun.state.id.client == client) attempts
+
+-- the first outcome that an own coordinator or a takeover of the attempt learned
+abbrev pub first_decision : List Learning → TxnId → Option Outcome
+first_decision learned id = option_map (λ l. l.outcome) (find (is_decision_of id) learned)
+
+-- what each attempt keeps: its flags are what was sent and learned, and its transaction has its number
+pub record AttemptFits (f : ℕ) (link : List Msg) (learned : List Learning) (begun : BegunView) : Type 0 where
+  pub faults : begun.faults ≡ f
+  pub validated : begun.validated ≡ list_any (is_validate_of begun.state.id) link
+  pub decided : begun.decided ≡ first_decision learned begun.state.id
+  pub named : (txn : Transaction) → begun.state.txn ≡ Some txn → txn.id ≡ begun.state.id
+
+-- what each client keeps: whether it reads, a last time that there is, and a next place above its attempts
+pub record ClientFits (attempts : List BegunView) (client : Client) : Type 0 where
+  pub reading : client.reading ≡ has_reading client.number attempts
+  pub last_time : client.last_time ≤ 2 ^ 62
+  pub next_seq : Each (λ begun. begun.state.id.client ≡ client.number → begun.state.id.seq < client.next_seq) attempts
+
+-- what a column keeps
+pub record IsKept (f : ℕ) (kept : Kept) (ends : SettledAttempts) : Type 0 where
+  pub replicas : length kept.replicas ≡ members f
+  pub attempts : Each (AttemptFits f kept.link (map learning_of_kept kept.learned)) kept.attempts
+  pub takeovers : Each (λ backup. backup.faults ≡ f) kept.takeovers
+  pub clients : Each (ClientFits kept.attempts) kept.clients
+  pub sent : Each (λ (msg : Msg). msg.replica < members f) kept.link
+  pub settled : (id : TxnId) → is_kept_settled ends id ≡ ((id.seq == 0) || passes (λ (begun : BegunView). is_settled begun.state) (begun_of id kept.attempts))
+  pub decisions : (id : TxnId) → begun_of id kept.attempts ≡ None → first_decision (map learning_of_kept kept.learned) id ≡ None
+  pub validates : (id : TxnId) → begun_of id kept.attempts ≡ None → list_any (is_validate_of id) kept.link ≡ false

@@ -1,0 +1,52 @@
+-- What the code keeps of a takeover.
+use Rattle.std.specs.Prelude.{ℕ, Bool, ◌&&◌, ◌==◌, false, List, Option, find, map, option_map, option_copied}
+use Rattle.std.specs.Borrow.{Bor}
+use Rattle.std.specs.declared.cmp.Ordering.{Ordering}
+use Rattle.std.specs.Ordering.{nat_cmp, ordering_then}
+use Rattle.mk_lists.specs.Changed.{change}
+use Rattle.mk_txn.specs.declared.TxnId.{TxnId}
+use Rattle.mk_txn.specs.Transactions.{same_id, id_cmp}
+use Rattle.mk_takeover.specs.Picks.{new_takeover}
+use Rattle.mk_column.specs.declared.backup.Turn.{Turn}
+use Rattle.mk_column.specs.ColumnState.{TakeoverOf, is_takeover}
+
+-- a takeover, and for how many faults it is made
+pub record BackupView : Type 0 where
+  pub faults : ℕ
+  pub of : TakeoverOf
+
+-- a takeover that has taken nothing
+abbrev pub backup_begun : ℕ → TxnId → ℕ → BackupView
+backup_begun f id view = record { faults = f; of = record { id = id; closed = false; state = new_takeover f view } }
+
+-- the takeover is changed, and nothing else
+abbrev pub on_backup : (TakeoverOf → TakeoverOf) → BackupView → BackupView
+on_backup f backup = record backup { of = f backup.of }
+
+-- whether two turns are one
+abbrev pub same_turn : Turn → Turn → Bool
+same_turn a b = same_id a.id b.id && a.view == b.view
+
+-- by attempt, and then by view
+abbrev pub turn_cmp : Turn → Turn → Ordering
+turn_cmp a b = ordering_then (id_cmp a.id b.id) (nat_cmp a.view b.view)
+
+-- the attempt and the view of a takeover
+abbrev pub turn_of : BackupView → Turn
+turn_of backup = record { id = backup.of.id; view = backup.of.state.view }
+
+-- the takeover of this attempt at this view
+abbrev pub backup_of : Turn → List BackupView → Option BackupView
+backup_of turn all = find (λ backup. is_takeover turn.id turn.view backup.of) all
+
+-- the takeover of this attempt at this view is changed, and no other
+abbrev pub change_backup : Turn → (BackupView → BackupView) → List BackupView → List BackupView
+change_backup turn f all = change (λ backup. is_takeover turn.id turn.view backup.of) f all
+
+-- the takeovers as the definitions have them
+abbrev pub takeovers_of : List BackupView → List TakeoverOf
+takeovers_of all = map (λ backup. backup.of) all
+
+-- a takeover that was looked up, as the definitions have it
+abbrev pub seen_backup : Option (Bor BackupView) → Option TakeoverOf
+seen_backup backup = option_map (λ (b : BackupView). b.of) (option_copied backup)

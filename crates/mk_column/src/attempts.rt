@@ -1,0 +1,158 @@
+//! The attempts of a column, found by their numbers.
+ghost use Rattle.std.specs.Prelude.{◌≡◌, ◌<◌, ◌∷◌, ◌++◌, [], true, false, None, Some, length, slice_index_or, slice_set, option_copied, IsSome, IsSomeAnd, OnOk, OnErr};
+ghost use Rattle.std.specs.Option.{option_or};
+ghost use Rattle.mk_quorum.specs.Sizes.{members};
+ghost use Rattle.mk_coord.specs.declared.Ruling.TheVariants.{Propose};
+ghost use Rattle.mk_coord.specs.Rulings.{ruling as ruling_of};
+ghost use Rattle.mk_column.specs.Answers.{attempt_answered};
+ghost use Rattle.mk_column.specs.Steps.{proposing, taught};
+ghost use Rattle.mk_column.specs.AttemptsByCode.{BegunView as OneBegun, on_state, begun_of, change_begun};
+
+use crate::begun::Begun;
+use mk_msg::Body;
+use mk_txn::{NoMemory, Outcome, ReadItem, Txn, TxnId};
+use std::alloc::Global;
+use std::collections::BTreeMap;
+use std::marker::Model;
+
+/// The attempts in the order in which they began.
+#[derive(Drop, Debug)]
+pub(crate) struct Attempts {
+    items: Vec<Begun>,
+    // where the attempt of each number stands
+    places: BTreeMap<TxnId, usize>,
+}
+
+impl Model for Attempts {
+    ghost use Rattle.std.specs.Prelude.{List, map};
+    ghost use Rattle.mk_txn.specs.Transactions.{same_id, id_cmp};
+    ghost use Rattle.mk_column.specs.AttemptsByCode.{BegunView, begun_id};
+    ghost use Rattle.mk_column.specs.Tables.{IsIndexed};
+
+    ghost Value = { List BegunView };
+
+    ghost view = { λ attempts. attempts.items.items };
+
+    ghost invariant = { λ attempts. IsIndexed same_id id_cmp (map begun_id attempts.items.items) attempts.places.entries };
+}
+
+impl Attempts {
+    pub(crate) fn new(alloc: Global) -> Attempts
+        ensures { result ≡ [] }
+    {
+        Attempts {
+            items: Vec::new(alloc),
+            places: BTreeMap::new(alloc),
+        }
+    }
+
+    /// The attempt of this number.
+    pub(crate) fn find(&self, id: TxnId) -> Option<&Begun>
+        ensures { option_copied result ≡ begun_of id self.now }
+    {
+        let place = self.places.get(&id)?;
+        self.items.get(*place)
+    }
+
+    /// Appends an attempt, of whose number there is none.
+    pub(crate) fn push(&mut self, begun: Begun) -> Result<(), NoMemory>
+        requires { begun_of begun.state.id self.old ≡ None }
+        ensures ok { OnOk result (self.new ≡ self.old ++ begun ∷ []) }
+        ensures err { OnErr result (self.new ≡ self.old) }
+    {
+        self.items.reserve(1)?;
+        let id = begun.id();
+        self.places.insert(id, self.items.len())?;
+        if self.items.push(begun).is_err() {
+            unreachable!();
+        }
+        Ok(())
+    }
+
+    // Where the attempt of this number stands. To change it there is to change it in the list.
+    fn place(&self, id: TxnId) -> usize
+        requires { IsSome (begun_of id self.now) }
+        ensures within { result < length self.now }
+        ensures found { (begun : OneBegun) → begun_of id self.now ≡ Some (slice_index_or self.now result begun) }
+        ensures changed { (f : OneBegun → OneBegun) (begun : OneBegun) → change_begun id f self.now ≡ slice_set self.now result (f (slice_index_or self.now result begun)) }
+    {
+        match self.places.get(&id) {
+            Some(place) => *place,
+            None => unreachable!(),
+        }
+    }
+
+    /// Reading ends, and the transaction is made.
+    pub(crate) fn stamp(&mut self, id: TxnId, txn: Txn)
+        requires { IsSome (begun_of id self.old) }
+        ensures { self.new ≡ change_begun id (on_state (λ a. record a { reading = false; txn = Some txn })) self.old }
+    {
+        let place = self.place(id);
+        self.items[place].stamp(txn);
+    }
+
+    /// The own coordinator stops for good.
+    pub(crate) fn stop(&mut self, id: TxnId)
+        requires { IsSome (begun_of id self.old) }
+        ensures { self.new ≡ change_begun id (on_state (λ a. record a { stopped = true })) self.old }
+    {
+        let place = self.place(id);
+        self.items[place].stop();
+    }
+
+    /// The own coordinator learns an outcome. The first one stays.
+    pub(crate) fn learn(&mut self, id: TxnId, outcome: Outcome)
+        requires { IsSome (begun_of id self.old) }
+        ensures { self.new ≡ change_begun id (on_state (taught outcome)) self.old }
+    {
+        let place = self.place(id);
+        self.items[place].learn(outcome);
+    }
+
+    /// Joins what was read to the attempt's reads.
+    pub(crate) fn read(&mut self, id: TxnId, item: ReadItem) -> Result<(), NoMemory>
+        requires { IsSome (begun_of id self.old) }
+        ensures ok { OnOk result (self.new ≡ change_begun id (on_state (λ a. record a { reads = a.reads ++ item ∷ [] })) self.old) }
+        ensures err { OnErr result (self.new ≡ self.old) }
+    {
+        let place = self.place(id);
+        self.items[place].read(item)?;
+        Ok(())
+    }
+
+    /// The own coordinator proposes the outcome that the votes give.
+    pub(crate) fn propose(&mut self, id: TxnId, outcome: Outcome)
+        requires { IsSomeAnd (begun_of id self.old) (λ begun. ruling_of begun.faults begun.state.coord ≡ Propose outcome) }
+        ensures { self.new ≡ change_begun id (on_state (proposing outcome)) self.old }
+    {
+        let place = self.place(id);
+        self.items[place].propose(outcome);
+    }
+
+    /// The own coordinator takes an answer of a replica.
+    pub(crate) fn answer(&mut self, id: TxnId, replica: u32, body: &Body)
+        requires { IsSomeAnd (begun_of id self.old) (λ begun. replica < members begun.faults) }
+        ensures { self.new ≡ change_begun id (on_state (attempt_answered replica body.now)) self.old }
+    {
+        let place = self.place(id);
+        self.items[place].answer(replica, body);
+    }
+
+    /// A Validate of the attempt was sent.
+    pub(crate) fn validate(&mut self, id: TxnId)
+        requires { IsSome (begun_of id self.old) }
+        ensures { self.new ≡ change_begun id (λ begun. record begun { validated = true }) self.old }
+    {
+        let place = self.place(id);
+        self.items[place].validate();
+    }
+
+    /// The own coordinator or a takeover of the attempt learned the outcome. The first one stays.
+    pub(crate) fn decide(&mut self, id: TxnId, outcome: Outcome)
+        requires { IsSome (begun_of id self.old) }
+        ensures { self.new ≡ change_begun id (λ begun. record begun { decided = option_or begun.decided (Some outcome) }) self.old }
+    {
+        let place = self.place(id);
+        self.items[place].decide(outcome);
+    }
+}

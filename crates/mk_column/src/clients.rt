@@ -1,0 +1,112 @@
+//! The clients of a column, found by their numbers.
+ghost use Rattle.std.specs.Prelude.{◌≡◌, ◌<◌, ◌∷◌, ◌++◌, [], None, Some, length, map, slice_index_or, slice_set, option_copied, IsSome, IsSomeAnd, OnOk, OnErr, IfOk};
+ghost use Rattle.mk_lists.specs.Among.{AllDistinct};
+ghost use Rattle.mk_column.specs.declared.clients.Client.{Client as OneClient};
+ghost use Rattle.mk_column.specs.ClientsByCode.{fresh_client, kept_client, change_kept};
+
+use mk_txn::NoMemory;
+use std::alloc::Global;
+use std::collections::BTreeMap;
+use std::marker::Model;
+
+/// A client: the time of its last stamp, its next place, the highest epoch that it has heard of, and whether an
+/// attempt of it is reading.
+#[derive(Clone, Copy, Debug)]
+pub(crate) struct Client {
+    pub(crate) number: u32,
+    pub(crate) last_time: u64,
+    pub(crate) next_seq: u32,
+    pub(crate) heard: u32,
+    pub(crate) reading: bool,
+}
+
+/// The clients in the order in which they were named.
+#[derive(Drop, Debug)]
+pub(crate) struct Clients {
+    items: Vec<Client>,
+    // where the client of each number stands
+    places: BTreeMap<u32, usize>,
+}
+
+impl Model for Clients {
+    ghost use Rattle.std.specs.Prelude.{List, map};
+    ghost use Rattle.std.specs.Ordering.{nat_cmp};
+    ghost use Rattle.mk_column.specs.declared.clients.Client.{Client};
+    ghost use Rattle.mk_column.specs.ClientsByCode.{number_of, same_number};
+    ghost use Rattle.mk_column.specs.Tables.{IsIndexed};
+
+    ghost Value = { List Client };
+
+    ghost view = { λ clients. clients.items.items };
+
+    ghost invariant = { λ clients. IsIndexed same_number nat_cmp (map number_of clients.items.items) clients.places.entries };
+}
+
+impl Clients {
+    pub(crate) fn new(alloc: Global) -> Clients
+        ensures { result ≡ [] }
+    {
+        Clients {
+            items: Vec::new(alloc),
+            places: BTreeMap::new(alloc),
+        }
+    }
+
+    /// The client of this number.
+    pub(crate) fn find(&self, number: u32) -> Option<&Client>
+        ensures { option_copied result ≡ kept_client number self.now }
+    {
+        let place = self.places.get(&number)?;
+        self.items.get(*place)
+    }
+
+    /// All clients, in the order in which they were named.
+    pub(crate) fn all(&self) -> &[Client]
+        ensures { result.now ≡ self.now }
+    {
+        self.items.as_slice()
+    }
+
+    /// Appends a client that has begun nothing, of whose number there is none.
+    pub(crate) fn push(&mut self, number: u32) -> Result<(), NoMemory>
+        requires { kept_client number self.old ≡ None }
+        ensures ok { OnOk result (self.new ≡ self.old ++ fresh_client number ∷ []) }
+        ensures err { OnErr result (self.new ≡ self.old) }
+    {
+        self.items.reserve(1)?;
+        self.places.insert(number, self.items.len())?;
+        let client = Client {
+            number,
+            last_time: 0,
+            next_seq: 1,
+            heard: 0,
+            reading: false,
+        };
+        if self.items.push(client).is_err() {
+            unreachable!();
+        }
+        Ok(())
+    }
+
+    // Where the client of this number stands. To change it there is to change it in the list.
+    fn place(&self, number: u32) -> usize
+        requires { IsSome (kept_client number self.now) }
+        ensures within { result < length self.now }
+        ensures found { (client : OneClient) → kept_client number self.now ≡ Some (slice_index_or self.now result client) }
+        ensures changed { (f : OneClient → OneClient) (client : OneClient) → change_kept number f self.now ≡ slice_set self.now result (f (slice_index_or self.now result client)) }
+    {
+        match self.places.get(&number) {
+            Some(place) => *place,
+            None => unreachable!(),
+        }
+    }
+
+    /// Puts this in the place of the client of its number.
+    pub(crate) fn put(&mut self, client: Client)
+        requires { IsSome (kept_client client.number self.old) }
+        ensures { (f : OneClient → OneClient) → IsSomeAnd (kept_client client.number self.old) (λ before. f before ≡ client) → self.new ≡ change_kept client.number f self.old }
+    {
+        let place = self.place(client.number);
+        self.items[place] = client;
+    }
+}

@@ -1,0 +1,465 @@
+//! One core number on all replicas.
+ghost use Rattle.std.specs.Prelude.{◌≡◌, [], true, ◌&&◌, ◌^◌, nat_le, is_none, is_some, IfSome, IfOk, IsSome, Some, ◌<◌, ◌≤◌, slice_get, option_map, option_copied};
+ghost use Rattle.mk_column.specs.ColumnState.{AttemptState, ClientState, attempt_of, takeover_of, client_of, entries_at, marks_at, shown};
+ghost use Rattle.mk_column.specs.declared.Step.TheVariants.{Read, Validate, Again, Stop, Take, Rule, Pick, Takeover, Begin, Unread, Key, Stamp as StampStep};
+ghost use Rattle.mk_column.specs.Conditions.{is_idle, wanted, first_failing, further_conditions, on_attempt, acts_on, picks_one, is_validate_of, leader_serves as leader_serves_in, may_begin as may_begin_in, heard_by, same_call, stamp_exists, first_condition, blocked as blocked_by, serves_from as serving_from};
+ghost use Rattle.mk_column.specs.ClientsByCode.{seen_client};
+ghost use Rattle.mk_column.specs.Answers.{is_led as is_led_in};
+ghost use Rattle.mk_column.specs.Logs.{replica_reset};
+ghost use Rattle.mk_coord.specs.Rulings.{ruling as ruling_of};
+ghost use Rattle.mk_takeover.specs.Picks.{pick as pick_of};
+ghost use Rattle.mk_quorum.specs.Slots.{passes};
+ghost use Rattle.mk_quorum.specs.Sizes.{members};
+ghost use Rattle.std.specs.List.{list_any};
+ghost use Rattle.mk_column.specs.Learnings.{decided as first_decided};
+ghost use Rattle.mk_column.specs.AttemptsByCode.{BegunView};
+ghost use Rattle.mk_column.specs.TakeoversByCode.{BackupView};
+
+use crate::attempts::Attempts;
+use crate::backup::{Backup, Turn};
+use crate::begun::Begun;
+use crate::clients::{Client, Clients};
+use crate::conditions::{
+    acts_on as acts_on_test, first_failing as first_failing_test, has_items, has_seq_left, is_call,
+    is_going, is_open, is_proposing, is_reading, is_stamped, is_undecided, is_unlearned, may_read,
+    may_stop, none_serves, picks_one as picks_one_test, serves, serves_from,
+};
+use crate::learned::Learned;
+use crate::replica::Replica;
+use crate::takeovers::Takeovers;
+use crate::work::Work;
+use crate::{Attempt, KeyCall, ReplicaView, Step, Writes};
+use mk_cell::{Answer, answers};
+use mk_coord::Ruling;
+use mk_msg::Link;
+use mk_quorum::Size;
+use mk_record::Entry;
+use mk_trim::Settled;
+use mk_txn::{Marks, NoMemory, Outcome, Stamp, TxnId};
+use std::alloc::Global;
+use std::marker::Model;
+
+/// The clients, attempts, takeovers, records, marks and messages of one core number, and the key calls under way.
+#[derive(Drop, Debug)]
+pub struct Column {
+    size: Size,
+    number: u32,
+    version: u32,
+    keys: u32,
+    views: Vec<ReplicaView>,
+    clients: Clients,
+    attempts: Attempts,
+    takeovers: Takeovers,
+    replicas: Vec<Replica>,
+    link: Link,
+    work: Work,
+    learned: Vec<Learned>,
+    settled: Settled,
+    log: Vec<Step>,
+}
+
+impl Model for Column {
+    ghost use Rattle.mk_column.specs.ColumnByCode.{ColumnView, Kept, column_of, IsKept};
+
+    ghost Value = { ColumnView };
+
+    ghost view = { λ c. record { number = c.number; setting = record { version = c.version; faults = c.size; keys = c.keys; views = c.views.items }; state = column_of (record { clients = c.clients; attempts = c.attempts; takeovers = c.takeovers; replicas = c.replicas.items; link = c.link.messages; work = c.work; learned = c.learned.items }); log = c.log.items } };
+
+    ghost invariant = { λ c. IsKept c.size (record { clients = c.clients; attempts = c.attempts; takeovers = c.takeovers; replicas = c.replicas.items; link = c.link.messages; work = c.work; learned = c.learned.items }) c.settled };
+}
+
+impl Column {
+    /// The key call that is wanted.
+    pub fn wants(&self) -> Option<KeyCall>
+        ensures { result ≡ wanted self.now.state.work }
+    {
+        self.work.wants()
+    }
+
+    /// The steps since the log was taken.
+    pub fn log(&self) -> &[Step]
+        ensures { result.now ≡ self.now.log }
+    {
+        self.log.as_slice()
+    }
+
+    pub fn link(&self) -> &Link
+        ensures { result.now.messages ≡ self.now.state.link }
+    {
+        &self.link
+    }
+
+    /// The attempt of this number.
+    pub fn attempt(&self, id: TxnId) -> Option<&Attempt>
+        ensures { option_copied result ≡ option_map shown (attempt_of self.now.state id) }
+    {
+        match self.begun(id) {
+            Some(begun) => Some(begun.shown()),
+            None => None,
+        }
+    }
+
+    /// The steps since the log was taken, which is empty then.
+    pub fn take_log(&mut self) -> Vec<Step>
+        ensures log { result.items ≡ self.old.log }
+        ensures rest { self.new ≡ record self.old { log = [] } }
+    {
+        let empty = Vec::new(*self.log.allocator());
+        std::mem::replace(&mut self.log, empty)
+    }
+
+    /// Leaves the replica no entries and no marks.
+    pub fn reset(&mut self, replica: u32)
+        requires there { replica < members self.old.setting.faults }
+        requires idle { is_idle self.old.state.work ≡ true }
+        ensures { self.new ≡ record self.old { state = replica_reset replica self.old.state } }
+    {
+        self.replicas[replica as usize].reset();
+    }
+
+    /// The place of the client's next attempt.
+    pub fn next_seq(&self, client: u32) -> u32
+        requires { IsSome (client_of self.now.state client) }
+        ensures { option_map (λ (c : ClientState). c.next_seq) (client_of self.now.state client) ≡ Some result }
+    {
+        self.client(client).unwrap().next_seq
+    }
+
+    /// The ruling of the attempt's own coordinator.
+    pub fn ruling(&self, id: TxnId) -> Ruling
+        requires { IsSome (attempt_of self.now.state id) }
+        ensures { option_map (λ (a : AttemptState). ruling_of self.now.setting.faults a.coord) (attempt_of self.now.state id) ≡ Some result }
+    {
+        match self.attempts.find(id) {
+            Some(begun) => begun.ruling(),
+            None => unreachable!(),
+        }
+    }
+
+    /// The marks at the replica.
+    pub fn marks(&self, replica: u32) -> &Marks
+        requires { replica < members self.now.setting.faults }
+        ensures { result.now ≡ marks_at self.now.state replica }
+    {
+        self.replicas[replica as usize].marks()
+    }
+
+    /// Copies of the entries at the replica.
+    pub fn entries(&self, replica: u32) -> Result<Vec<Entry>, NoMemory>
+        requires { replica < members self.now.setting.faults }
+        ensures { IfOk result (λ entries. entries.items ≡ entries_at self.now.state replica) }
+    {
+        let alloc = *self.log.allocator();
+        copies(alloc, self.replicas[replica as usize].entries())
+    }
+
+    // The attempt of this number, as it is kept.
+    fn begun(&self, id: TxnId) -> Option<&Begun>
+        ensures { option_map (λ (begun : BegunView). begun.state) (option_copied result) ≡ attempt_of self.now.state id }
+    {
+        self.attempts.find(id)
+    }
+
+    // The takeover of this attempt at this view, as it is kept.
+    fn backup(&self, id: TxnId, view: u32) -> Option<&Backup>
+        ensures { option_map (λ (backup : BackupView). backup.of) (option_copied result) ≡ takeover_of self.now.state id view }
+    {
+        self.takeovers.find(Turn { id, view })
+    }
+
+    /// The first outcome that the own coordinator or a takeover of the attempt learned.
+    pub fn decided(&self, id: TxnId) -> Option<Outcome>
+        ensures { result ≡ first_decided self.now.state id }
+    {
+        self.attempts.find(id)?.decided()
+    }
+
+    // The number of the first condition of Read that fails, after the first.
+    fn read_fails(&self, id: TxnId, key: u32) -> Option<u8>
+        ensures { result ≡ first_failing 2 (further_conditions self.now.setting self.now.state (Read id key)) }
+    {
+        let begun = self.begun(id);
+        first_failing_test(&[is_reading(begun), key < self.keys, may_read(begun, key)])
+    }
+
+    fn validate_fails(&self, id: TxnId) -> Option<u8>
+        ensures { result ≡ first_failing 2 (further_conditions self.now.setting self.now.state (Validate id)) }
+    {
+        let begun = self.begun(id);
+        first_failing_test(&[is_stamped(begun), is_going(begun), is_undecided(begun)])
+    }
+
+    fn again_fails(&self, id: TxnId) -> Option<u8>
+        ensures { result ≡ first_failing 2 (further_conditions self.now.setting self.now.state (Again id)) }
+    {
+        let begun = self.begun(id);
+        first_failing_test(&[is_stamped(begun), is_going(begun), is_proposing(begun)])
+    }
+
+    fn stop_fails(&self, id: TxnId) -> Option<u8>
+        ensures { result ≡ first_failing 2 (further_conditions self.now.setting self.now.state (Stop id)) }
+    {
+        let begun = self.begun(id);
+        first_failing_test(&[is_stamped(begun), may_stop(begun)])
+    }
+
+    fn take_fails(&self, number: u64) -> Option<u8>
+        ensures { result ≡ first_failing 2 (further_conditions self.now.setting self.now.state (Take number)) }
+    {
+        first_failing_test(&[self.link.get(number).is_some()])
+    }
+
+    // Whether there is something to do by the attempt's ruling.
+    fn may_rule(&self, id: TxnId) -> bool
+        ensures { result ≡ on_attempt self.now.state id (λ a. acts_on (ruling_of self.now.setting.faults a.coord)) }
+    {
+        match self.attempts.find(id) {
+            Some(begun) => acts_on_test(begun.ruling()),
+            None => false,
+        }
+    }
+
+    fn rule_fails(&self, id: TxnId) -> Option<u8>
+        ensures { result ≡ first_failing 2 (further_conditions self.now.setting self.now.state (Rule id)) }
+    {
+        let begun = self.begun(id);
+        first_failing_test(&[
+            is_stamped(begun),
+            is_going(begun),
+            is_unlearned(begun),
+            self.may_rule(id),
+        ])
+    }
+
+    // Whether the replica that leads the view serves the epoch.
+    fn is_led(&self, epoch: u32, view: u32) -> bool
+        ensures { result ≡ is_led_in self.now.setting epoch view }
+    {
+        let leader = view % self.size.n();
+        match self.views.get(leader as usize) {
+            Some(view) => serves(view, epoch),
+            None => false,
+        }
+    }
+
+    // Whether the replica that leads the view serves the attempt's epoch.
+    fn leader_serves(&self, id: TxnId, view: u32) -> bool
+        ensures { result ≡ leader_serves_in self.now.setting self.now.state id view }
+    {
+        match self.begun(id) {
+            Some(begun) => self.is_led(begun.shown().epoch, view),
+            None => false,
+        }
+    }
+
+    // Whether there is something to do by the takeover's pick.
+    fn may_pick(&self, id: TxnId, view: u32) -> bool
+        ensures { result ≡ passes (λ t. picks_one (pick_of self.now.setting.faults t.state)) (takeover_of self.now.state id view) }
+    {
+        match self.takeovers.find(Turn { id, view }) {
+            Some(backup) => picks_one_test(backup.pick()),
+            None => false,
+        }
+    }
+
+    fn pick_fails(&self, id: TxnId, view: u32) -> Option<u8>
+        ensures { result ≡ first_failing 2 (further_conditions self.now.setting self.now.state (Pick id view)) }
+    {
+        first_failing_test(&[
+            is_open(self.backup(id, view)),
+            self.leader_serves(id, view),
+            self.may_pick(id, view),
+        ])
+    }
+
+    // Whether a Validate of the attempt was sent.
+    fn is_validated(&self, id: TxnId) -> bool
+        ensures { result ≡ list_any (is_validate_of id) self.now.state.link }
+    {
+        match self.attempts.find(id) {
+            Some(begun) => begun.is_validated(),
+            None => false,
+        }
+    }
+
+    // Whether the view is one of a takeover that has not begun.
+    fn may_take_over(&self, id: TxnId, view: u32) -> bool
+        ensures { result ≡ (nat_le 1 view && nat_le view 15 && is_none (takeover_of self.now.state id view)) }
+    {
+        1 <= view && view <= 15 && self.backup(id, view).is_none()
+    }
+
+    fn takeover_fails(&self, id: TxnId, view: u32) -> Option<u8>
+        ensures { result ≡ first_failing 2 (further_conditions self.now.setting self.now.state (Takeover id view)) }
+    {
+        first_failing_test(&[
+            self.is_validated(id),
+            self.may_take_over(id, view),
+            self.leader_serves(id, view),
+        ])
+    }
+
+    fn may_begin(&self, client: u32) -> bool
+        ensures { result ≡ may_begin_in self.now.state client }
+    {
+        match self.clients.find(client) {
+            Some(client) => !client.reading,
+            None => false,
+        }
+    }
+
+    // The client of this number, as it is kept.
+    fn client(&self, number: u32) -> Option<&Client>
+        ensures seen { seen_client result ≡ client_of self.now.state number }
+        ensures in_time { IfSome result (λ client. client.now.last_time ≤ 2 ^ 62) }
+    {
+        self.clients.find(number)
+    }
+
+    // The highest epoch that the client has heard of.
+    fn heard(&self, client: u32) -> u32
+        ensures { result ≡ heard_by self.now.state client }
+    {
+        match self.client(client) {
+            Some(client) => client.heard,
+            None => 0,
+        }
+    }
+
+    // Whether the replica serves an epoch that the client may begin in.
+    fn serves_client(&self, client: u32, replica: u32) -> bool
+        ensures { result ≡ passes (serving_from (heard_by self.now.state client)) (slice_get self.now.setting.views replica) }
+    {
+        let heard = self.heard(client);
+        match self.views.get(replica as usize) {
+            Some(view) => serves_from(view, heard),
+            None => false,
+        }
+    }
+
+    fn begin_fails(&self, client: u32, replica: u32) -> Option<u8>
+        ensures { result ≡ first_failing 2 (further_conditions self.now.setting self.now.state (Begin client replica)) }
+    {
+        first_failing_test(&[
+            self.may_begin(client),
+            self.serves_client(client, replica),
+            has_seq_left(self.client(client)),
+        ])
+    }
+
+    fn unread_fails(&self, client: u32) -> Option<u8>
+        ensures { result ≡ first_failing 2 (further_conditions self.now.setting self.now.state (Unread client)) }
+    {
+        let heard = self.heard(client);
+        first_failing_test(&[
+            self.may_begin(client),
+            none_serves(&self.views, heard),
+            has_seq_left(self.client(client)),
+        ])
+    }
+
+    // Whether this is the key call that is wanted.
+    fn is_wanted(&self, call: &KeyCall) -> bool
+        ensures { result ≡ passes (same_call call.now) (wanted self.now.state.work) }
+    {
+        match self.work.wants() {
+            Some(wanted) => is_call(call, &wanted),
+            None => false,
+        }
+    }
+
+    fn key_fails(&self, call: &KeyCall, answer: &Answer) -> Option<u8>
+        ensures { result ≡ first_failing 2 (further_conditions self.now.setting self.now.state (Key call.now answer.now)) }
+    {
+        first_failing_test(&[answers(&call.act, answer)])
+    }
+
+    // Whether the clock is in range, and the attempt's stamp at it is not past the last time.
+    fn may_stamp(&self, id: TxnId, clock: u64) -> bool
+        ensures { result ≡ (nat_le clock (2 ^ 61) && on_attempt self.now.state id (λ a. stamp_exists self.now.state a clock)) }
+    {
+        clock <= 1 << 61 && self.next_stamp(id, clock).is_some()
+    }
+
+    // The attempt's stamp at this clock.
+    fn next_stamp(&self, id: TxnId, clock: u64) -> Option<Stamp>
+        ensures { is_some result ≡ on_attempt self.now.state id (λ a. stamp_exists self.now.state a clock) }
+    {
+        let begun = self.begun(id)?;
+        let client = self.client(begun.id().client)?;
+        begun.next_stamp(client.number, client.last_time, clock)
+    }
+
+    fn stamp_fails(&self, id: TxnId, clock: u64, writes: &Writes) -> Option<u8>
+        ensures { result ≡ first_failing 2 (further_conditions self.now.setting self.now.state (StampStep id clock writes.now)) }
+    {
+        let begun = self.begun(id);
+        first_failing_test(&[
+            is_reading(begun),
+            writes.fit(self.keys),
+            self.may_stamp(id, clock),
+            has_items(begun, writes),
+        ])
+    }
+
+    // Whether the first condition holds: a Key step is the wanted call, and for any other none is wanted.
+    fn comes_first(&self, step: &Step) -> bool
+        ensures { result ≡ first_condition self.now.state step.now }
+    {
+        match step {
+            Step::Key { call, .. } => self.is_wanted(call),
+            Step::Begin { .. } => self.work.is_idle(),
+            Step::Unread { .. } => self.work.is_idle(),
+            Step::Read { .. } => self.work.is_idle(),
+            Step::Stamp { .. } => self.work.is_idle(),
+            Step::Validate { .. } => self.work.is_idle(),
+            Step::Take { .. } => self.work.is_idle(),
+            Step::Rule { .. } => self.work.is_idle(),
+            Step::Again { .. } => self.work.is_idle(),
+            Step::Takeover { .. } => self.work.is_idle(),
+            Step::Pick { .. } => self.work.is_idle(),
+            Step::Stop { .. } => self.work.is_idle(),
+        }
+    }
+
+    // The number of the first condition that fails, from 2 on.
+    fn further_fails(&self, step: &Step) -> Option<u8>
+        ensures { result ≡ first_failing 2 (further_conditions self.now.setting self.now.state step.now) }
+    {
+        match step {
+            Step::Begin { client, replica } => self.begin_fails(*client, *replica),
+            Step::Unread { client } => self.unread_fails(*client),
+            Step::Read { id, key } => self.read_fails(*id, *key),
+            Step::Stamp { id, clock, writes } => self.stamp_fails(*id, *clock, writes),
+            Step::Validate { id } => self.validate_fails(*id),
+            Step::Take { number } => self.take_fails(*number),
+            Step::Key { call, answer } => self.key_fails(call, answer),
+            Step::Rule { id } => self.rule_fails(*id),
+            Step::Again { id } => self.again_fails(*id),
+            Step::Takeover { id, view } => self.takeover_fails(*id, *view),
+            Step::Pick { id, view } => self.pick_fails(*id, *view),
+            Step::Stop { id } => self.stop_fails(*id),
+        }
+    }
+
+    /// None exactly where the step is enabled, and else the number of its first condition that fails, from 1.
+    pub fn blocked(&self, step: &Step) -> Option<u8>
+        ensures { result ≡ blocked_by self.now.setting self.now.state step.now }
+    {
+        if self.comes_first(step) {
+            self.further_fails(step)
+        } else {
+            Some(1)
+        }
+    }
+}
+
+fn copies(alloc: Global, entries: &[Entry]) -> Result<Vec<Entry>, NoMemory>
+    ensures { IfOk result (λ copies. copies.items ≡ entries.now) }
+{
+    let mut copies = Vec::new(alloc);
+    for entry in entries {
+        copies.push(entry.copy()?)?;
+    }
+    Ok(copies)
+}
