@@ -1,1 +1,6 @@
 mod EpochRows
+mod RowLaws
+mod StandingLaws
+mod AnswerLaws
+mod KeptLaws
+mod KeepLaws

@@ -1,7 +1,12 @@
 //! Epoch changes: words, promises, bases and adoptions.
 #![tactic(auto)]
 
+mod change;
+mod replica;
+mod replicas;
+
 use mk_txn::NoMemory;
+pub use replicas::Replicas;
 
 /// Why a step of an epoch change is refused.
 #[derive(Clone, Copy, Debug, PartialEq, Eq)]
