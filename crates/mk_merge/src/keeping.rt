@@ -56,7 +56,7 @@ pub trait Keeping: Drop {
         promises: &[Promise<Self>],
     ) -> Result<Self, MergeError>
         requires { (states : List PromiseState) × Stand Self stands promises.now states × ArePromises states }
-        ensures ok { IfOk result (λ made. (states : List PromiseState) → Stand Self stands promises.now states → stands made (merged size epoch states)) }
+        ensures ok { IfOk result (λ made. (states : List PromiseState) → Stand Self stands promises.now states → ArePromises states → stands made (merged size epoch states)) }
         ensures short { (states : List PromiseState) → Stand Self stands promises.now states → can_merge size epoch states ≡ false → result ≡ Err (MergeError.Short (counted promises.now)) }
         ensures enough { (states : List PromiseState) → Stand Self stands promises.now states → can_merge size epoch states ≡ true → IfErr result (λ error. error ≡ MergeError.NoMemory) };
 }

@@ -9,7 +9,7 @@ merge_listed-requires c = subst ArePromises (sym (stand-listed c.args.promises.n
 
 pub returns-clause-ok : goal.returns-clause-ok
 returns-clause-ok c =
-    ok-each c.merge_listed.result _ _ (λ made is states stand. is ∙ ap (merged c.args.size c.args.epoch) (stand-listed c.args.promises.now states stand)) c.merge_listed.ensures.ok
+    ok-each c.merge_listed.result _ _ (λ made is states stand fit. is ∙ ap (merged c.args.size c.args.epoch) (stand-listed c.args.promises.now states stand)) c.merge_listed.ensures.ok
 
 pub returns-clause-short : goal.returns-clause-short
 returns-clause-short c states stand none =
