@@ -9,3 +9,4 @@ mod Resetting
 mod Paths
 mod SourceKept
 mod Stated
+mod PromisesFit

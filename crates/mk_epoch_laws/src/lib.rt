@@ -7,6 +7,7 @@
 ghost use Rattle.mk_epoch_laws.specs.Turns.{Always, AlwaysLater};
 ghost use Rattle.mk_epoch_laws.specs.WordLaws.{WordsBound, WordsRise, PhaseAndWord, AdoptedOnTop, AdoptsOnce, PromiseGap, OnePromiseEach};
 ghost use Rattle.mk_epoch_laws.specs.BaseLaws.{BasesMade, BasesStay, BasesHeld, ServingWasEntered, EnteredWasHeld, ResetForGood};
+ghost use Rattle.mk_epoch_laws.specs.FitLaws.{FirstIsReached, NextIsReached, PromisesAreFit, HandedInIsCoherent};
 ghost use Rattle.mk_epoch_laws.specs.PathLaws.{EpochsInOrder, PathsPass, PathsStay, PathsKeep, HeldStands, ForceInOrder, ForceInLine};
 
 /// Epoch words bound what replicas promised and adopted, and outlive a wipe.
@@ -39,4 +40,12 @@ pub fn epochs_follow()
     ensures held_stands { Always HeldStands }
     ensures force_in_order { AlwaysLater ForceInOrder }
     ensures force_in_line { Always ForceInLine }
+{}
+
+/// Where each replica hands in what it may, a base may be made of the promises of every epoch.
+pub fn promises_fit()
+    ensures first { FirstIsReached }
+    ensures next { NextIsReached }
+    ensures fit { PromisesAreFit }
+    ensures coherent { HandedInIsCoherent }
 {}
