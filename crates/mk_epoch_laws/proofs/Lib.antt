@@ -10,3 +10,4 @@ mod Paths
 mod SourceKept
 mod Stated
 mod PromisesFit
+mod ReachedCalls

@@ -4,6 +4,9 @@
 //! replicas hand in with their promises. The functions do nothing: what they promise is the law.
 #![tactic(auto)]
 
+#[cfg(test)]
+mod tests;
+
 ghost use Rattle.mk_epoch_laws.specs.Turns.{Always, AlwaysLater};
 ghost use Rattle.mk_epoch_laws.specs.WordLaws.{WordsBound, WordsRise, PhaseAndWord, AdoptedOnTop, AdoptsOnce, PromiseGap, OnePromiseEach};
 ghost use Rattle.mk_epoch_laws.specs.BaseLaws.{BasesMade, BasesStay, BasesHeld, ServingWasEntered, EnteredWasHeld, ResetForGood};
