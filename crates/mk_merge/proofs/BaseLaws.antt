@@ -64,7 +64,7 @@ Each-filter P p (txn ∷ txns) h = by_test (Each-filter P p txns h.1) (p txn)
     by_test more true = (h.0, more)
     by_test more false = more
 
-AreInOrder-filter : (p : Transaction → Bool) (txns : List Transaction) → AreInOrder txns → AreInOrder (filter p txns)
+pub AreInOrder-filter : (p : Transaction → Bool) (txns : List Transaction) → AreInOrder txns → AreInOrder (filter p txns)
 AreInOrder-filter p [] h = tt
 AreInOrder-filter p (txn ∷ txns) h = by_test (AreInOrder-filter p txns h.1) (p txn)
   where

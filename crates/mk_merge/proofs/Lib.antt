@@ -12,4 +12,7 @@ pub mod FateLaws
 pub mod StampLaws
 pub mod BaseLaws
 pub mod StandLaws
+pub mod Members
+pub mod Fitting
+pub mod AddingLaws
 pub mod Examples

@@ -5,3 +5,4 @@ pub mod Lefts
 pub mod Promises
 pub mod Merging
 pub mod Keepings
+pub mod Adding
