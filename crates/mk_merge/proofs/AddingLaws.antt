@@ -1,11 +1,11 @@
 -- What is merged is the base of the promises that count and what the merge adds.
-use Rattle.std.proofs.Common.{◌≡◌, ◌⊎◌, ℕ, zero, suc, ◌≤◌, ◌+◌, inl, inr, Bool, true, false, not, refl, sym, ap, subst, ◌∙◌, List, [], ◌∷◌, ◌++◌, map, filter, Option, Some, None, cond, ◌&&◌, ◌||◌, arith}
-use Rattle.std.specs.Prelude.{flat_map, find, is_none, is_some, nat_le, option_map, option_and_then, ◌==◌}
+use Rattle.std.proofs.Common.{◌≡◌, ◌⊎◌, ℕ, ◌<◌, ◌≤◌, ◌+◌, length, get_or, drop, append_assoc, inl, inr, Bool, true, false, not, refl, sym, ap, subst, ◌∙◌, List, [], ◌∷◌, ◌++◌, map, filter, Option, Some, None, cond, ◌&&◌, ◌||◌, arith}
+use Rattle.std.specs.Prelude.{find, is_none, nat_le, option_map, option_and_then, ◌==◌}
 use Rattle.std.specs.List.{list_any}
 use Rattle.std.specs.Option.{option_or}
 use Rattle.std.proofs.lemmas.Bool.{false≢true}
 use Rattle.std.proofs.lemmas.Bool.Decides.{nat_tests}
-use Rattle.mk_lists.specs.Among.{Among, Each, Each-among, Each-weaker, Among-append, Among-append_left, Among-append_right}
+use Rattle.mk_lists.specs.Among.{Among, Each, AllDistinct, Each-among, Each-weaker, Among-append, Among-append_left, Among-append_right}
 use Rattle.mk_txn.specs.declared.TxnId.{TxnId}
 use Rattle.mk_txn.specs.declared.Outcome.{Outcome}
 use Rattle.mk_txn.specs.declared.Outcome.TheVariants.{Commit}
@@ -17,19 +17,19 @@ use Rattle.mk_txn.proofs.IdOrder.{id_before-itself, id_before-through, id_before
 use Rattle.mk_txn.proofs.ClashFacts.{member-from_list_any, list_any-from_member}
 use Rattle.mk_record.specs.declared.Entry.{Entry}
 use Rattle.mk_record.specs.Entries.{entry_of, is_entry_of}
-use Rattle.mk_quorum.specs.Counts.{count_below}
 use Rattle.mk_quorum.specs.Sizes.{members, hint_of}
 use Rattle.mk_quorum.specs.Slots.{passes}
 use Rattle.mk_trim.specs.KeptOutcomes.{KeptOutcomes, outcome_of}
 use Rattle.mk_merge.specs.declared.Fated.{Fated}
-use Rattle.mk_merge.specs.Bases.{BaseState, IsInIdOrder, fated, fate_in, fates_in, kept_of, taught_by, commits_in, in_id_order, in_stamp_order}
+use Rattle.mk_merge.specs.Bases.{BaseState, IsInIdOrder, fated, fate_in, fates_in, kept_of, taught_by, commits_in, in_stamp_order}
 use Rattle.mk_merge.specs.Rebuilding.{fits_base}
-use Rattle.mk_merge.specs.Promises.{PromiseState, EntryFits, base_of}
-use Rattle.mk_merge.specs.Merging.{reported, settled_fate, settled_commits, candidates, ok_reports, taken, fate_by, fates_by, merged_from, reported_txns}
-use Rattle.mk_merge.specs.Adding.{is_new, entered_txns, new_txns, entered_fate, new_commits, new_candidates, additions, put_fated, with_fated}
+use Rattle.mk_merge.specs.Promises.{PromiseState, base_of}
+use Rattle.mk_merge.specs.Merging.{reported, settled_fate, settled_commits, candidates, ok_reports, taken, fate_by, merged_from, reported_txns}
+use Rattle.mk_merge.specs.Adding.{is_new, entered_txns, new_txns, entered_fate, new_commits, new_candidates, additions, put_fated, with_fated, AreCounted}
 use Rattle.mk_merge.proofs.KnownLaws.{fate_in-fates_in, outcome_of-not_covered}
 use Rattle.mk_merge.proofs.OrderLaws.{Among-ordered}
-use Rattle.mk_merge.proofs.BaseLaws.{AreInOrder, AreInOrder-ordered, AreInOrder-filter, IsInIdOrder-fated, all_of}
+use Rattle.mk_merge.proofs.ListLaws.{drop-at}
+use Rattle.mk_merge.proofs.BaseLaws.{AreInOrder, AreInOrder-ordered, AreInOrder-filter, IsInIdOrder-fated, AreCoherent-within, stamps-distinct, all_of}
 use Rattle.mk_merge.proofs.Members.{InOrder, same-members, both_true, neither, agree, Among-mapping, Among-mapped, Among-passing, Among-passed, Among-flat_mapping, Among-flat_mapped, find-passes, any-last, one_counted, ordered-keeps, stamp_order-from}
 use Rattle.mk_merge.proofs.Fitting.{fit-apart}
 
@@ -169,12 +169,10 @@ taken-same xs ys (t ∷ cs) id clash same =
 
 -- ---- promises that count
 
--- what is asked of them
-pub record AreCounted (ps : List PromiseState) : Type 0 where
+-- what is asked of them, and their base is in order
+pub record IsGiven (ps : List PromiseState) : Type 0 where
   pub in_order : IsInIdOrder (base_of ps).list
-  pub coherent : AreCoherent (all_of ps)
-  pub one_base : (p : PromiseState) → Among p ps → p.base ≡ base_of ps
-  pub fit : (p : PromiseState) (e : Entry) → Among p ps → Among e p.entries → EntryFits p.base e
+  pub counted : AreCounted ps
 
 -- an entry of a transaction that one of them handed in
 record Handed (ps : List PromiseState) (t : Transaction) : Type 0 where
@@ -193,13 +191,13 @@ handed-from ps t a =
 entered-from : (ps : List PromiseState) (p : PromiseState) (e : Entry) → Among p ps → Among e p.entries → Among e.txn (entered_txns ps)
 entered-from ps p e a b = Among-flat_mapping (λ (p : PromiseState). map (λ (e : Entry). e.txn) p.entries) e.txn p ps a (Among-mapping (λ (e : Entry). e.txn) e p.entries b)
 
-uncovered : (ps : List PromiseState) (t : Transaction) → AreCounted ps → Among t (entered_txns ps) → covers (base_of ps).marks t.id ≡ false
+uncovered : (ps : List PromiseState) (t : Transaction) → IsGiven ps → Among t (entered_txns ps) → covers (base_of ps).marks t.id ≡ false
 uncovered ps t h a =
     let k = handed-from ps t a in
-    subst (λ (b : BaseState). covers b.marks t.id ≡ false) (h.one_base k.promise k.given)
-    (subst (λ (u : Transaction). covers k.promise.base.marks u.id ≡ false) k.is (h.fit k.promise k.entry k.given k.within).uncovered)
+    subst (λ (b : BaseState). covers b.marks t.id ≡ false) (h.counted.one_base k.promise k.given)
+    (subst (λ (u : Transaction). covers k.promise.base.marks u.id ≡ false) k.is (h.counted.fit k.promise k.entry k.given k.within).uncovered)
 
-new-is : (ps : List PromiseState) (t : Transaction) → AreCounted ps → Among t (entered_txns ps) → is_new (kept_of (base_of ps)) t.id ≡ is_none (fate_in t.id (base_of ps).list)
+new-is : (ps : List PromiseState) (t : Transaction) → IsGiven ps → Among t (entered_txns ps) → is_new (kept_of (base_of ps)) t.id ≡ is_none (fate_in t.id (base_of ps).list)
 new-is ps t h a =
     let un = uncovered ps t h a in
     let out : outcome_of t.id (taught_by (base_of ps)) ≡ fate_in t.id (base_of ps).list =
@@ -215,7 +213,7 @@ record IsFresh (ps : List PromiseState) (t : Transaction) : Type 0 where
   entered : Among t (entered_txns ps)
   fresh : fate_in t.id (base_of ps).list ≡ None
 
-fresh-from : (ps : List PromiseState) (t : Transaction) → AreCounted ps → Among t (new_txns (kept_of (base_of ps)) ps) → IsFresh ps t
+fresh-from : (ps : List PromiseState) (t : Transaction) → IsGiven ps → Among t (new_txns (kept_of (base_of ps)) ps) → IsFresh ps t
 fresh-from ps t h a =
     let k = Among-passing (λ (u : Transaction). is_new (kept_of (base_of ps)) u.id) t (entered_txns ps) (Among-ordered t (filter (λ u. is_new (kept_of (base_of ps)) u.id) (entered_txns ps)) a) in
     record { entered = k.0; fresh = none-from (fate_in t.id (base_of ps).list) (sym (new-is ps t h k.0) ∙ k.1) }
@@ -226,20 +224,20 @@ entered-all ps t a = Among-append_right t (map (λ (f : Fated). f.txn) (base_of 
 based-all : (ps : List PromiseState) (g : Fated) → Among g (base_of ps).list → Among g.txn (all_of ps)
 based-all ps g a = Among-append_left g.txn (map (λ (f : Fated). f.txn) (base_of ps).list) (entered_txns ps) (Among-mapping (λ (f : Fated). f.txn) g (base_of ps).list a)
 
-new-from : (ps : List PromiseState) (t : Transaction) → AreCounted ps → IsFresh ps t → Among t (new_txns (kept_of (base_of ps)) ps)
+new-from : (ps : List PromiseState) (t : Transaction) → IsGiven ps → IsFresh ps t → Among t (new_txns (kept_of (base_of ps)) ps)
 new-from ps t h k =
-    ordered-keeps (all_of ps) (filter (λ u. is_new (kept_of (base_of ps)) u.id) (entered_txns ps)) t h.coherent
+    ordered-keeps (all_of ps) (filter (λ u. is_new (kept_of (base_of ps)) u.id) (entered_txns ps)) t h.counted.coherent
     (λ u a. entered-all ps u (Among-passing (λ (x : Transaction). is_new (kept_of (base_of ps)) x.id) u (entered_txns ps) a).0)
     (Among-passed (λ (u : Transaction). is_new (kept_of (base_of ps)) u.id) t (entered_txns ps) k.entered (new-is ps t h k.entered ∙ ap is_none k.fresh))
 
-reported-from : (ps : List PromiseState) (t : Transaction) → AreCounted ps → Among t (all_of ps) → Among t (reported_txns ps)
-reported-from ps t h a = ordered-keeps (all_of ps) (all_of ps) t h.coherent (λ u b. b) a
+reported-from : (ps : List PromiseState) (t : Transaction) → IsGiven ps → Among t (all_of ps) → Among t (reported_txns ps)
+reported-from ps t h a = ordered-keeps (all_of ps) (all_of ps) t h.counted.coherent (λ u b. b) a
 
 -- what is reported is the base's or new
 abbrev IsEither : List PromiseState → Transaction → Type 0
 IsEither ps t = ((g : Fated) × Among g (base_of ps).list × (g.txn ≡ t)) ⊎ IsFresh ps t
 
-either : (ps : List PromiseState) (t : Transaction) → AreCounted ps → Among t (reported_txns ps) → IsEither ps t
+either : (ps : List PromiseState) (t : Transaction) → IsGiven ps → Among t (reported_txns ps) → IsEither ps t
 either ps t h a = elim (Among-append t (map (λ (f : Fated). f.txn) (base_of ps).list) (entered_txns ps) (Among-ordered t (all_of ps) a)) [
   | inl b ↦ inl (Among-mapped (λ (f : Fated). f.txn) t (base_of ps).list b)
   | inr e ↦ by (fate_in t.id (base_of ps).list) refl e
@@ -249,12 +247,12 @@ either ps t h a = elim (Among-append t (map (λ (f : Fated). f.txn) (base_of ps)
     by None k e = inr (record { entered = e; fresh = k })
     by (Some o) k e =
         let g = fate-member t.id (base_of ps).list o k in
-        inl (g.0, g.1, h.coherent.one_of_a_number (g.0).txn t (based-all ps g.0 g.1) (entered-all ps t e) g.2)
+        inl (g.0, g.1, h.counted.coherent.one_of_a_number (g.0).txn t (based-all ps g.0 g.1) (entered-all ps t e) g.2)
 
 settled-new : (f : ℕ) (ps : List PromiseState) (t : Transaction) → fate_in t.id (base_of ps).list ≡ None → settled_fate f ps t.id ≡ entered_fate f ps t.id
 settled-new f ps t e = ap (λ o. option_or o (entered_fate f ps t.id)) e
 
-settled-old : (f : ℕ) (ps : List PromiseState) (t : Transaction) (g : Fated) → AreCounted ps → Among g (base_of ps).list → g.txn ≡ t → settled_fate f ps t.id ≡ Some g.outcome
+settled-old : (f : ℕ) (ps : List PromiseState) (t : Transaction) (g : Fated) → IsGiven ps → Among g (base_of ps).list → g.txn ≡ t → settled_fate f ps t.id ≡ Some g.outcome
 settled-old f ps t g h a same = ap (λ o. option_or o (entered_fate f ps t.id)) (subst (λ (u : Transaction). fate_in u.id (base_of ps).list ≡ Some g.outcome) same (fate-there (base_of ps).list g h.in_order a))
 
 -- ---- candidates
@@ -266,7 +264,7 @@ in-order : (txns : List Transaction) → AreInOrder txns → InOrder (λ t. t.id
 in-order [] h = tt
 in-order (t ∷ txns) h = (h.0, in-order txns h.1)
 
-awaiting-same : (f : ℕ) (ps : List PromiseState) → AreCounted ps
+awaiting-same : (f : ℕ) (ps : List PromiseState) → IsGiven ps
     → filter (awaits f ps (settled_fate f ps)) (reported_txns ps) ≡ filter (awaits f ps (entered_fate f ps)) (new_txns (kept_of (base_of ps)) ps)
 awaiting-same f ps h = same-members (λ t. t.id) all new
     (in-order all (AreInOrder-filter (awaits f ps (settled_fate f ps)) (reported_txns ps) (AreInOrder-ordered (all_of ps))))
@@ -298,7 +296,7 @@ at_least_one : (x y : ℕ) → nat_le (x + 1) y ≡ true → 1 ≤ y
 at_least_one x y e = grind (arith, nat_tests, e)
 
 -- an Ok vote was reported for what a hint of votes is there for, so it fits the base
-hinted : (f : ℕ) (ps : List PromiseState) (t : Transaction) → AreCounted ps → Among t (all_of ps) → nat_le (hint_of f) (ok_reports f ps t.id) ≡ true → fits_base (base_of ps) t ≡ true
+hinted : (f : ℕ) (ps : List PromiseState) (t : Transaction) → IsGiven ps → Among t (all_of ps) → nat_le (hint_of f) (ok_reports f ps t.id) ≡ true → fits_base (base_of ps) t ≡ true
 hinted f ps t h a e =
     let r = one_counted (members f) (λ (r : ℕ). passes (λ (e : Entry). passes is_ok_vote e.vote) (reported ps t.id r)) (at_least_one _ _ e) in
     voted r.0 (find (λ p. p.replica == r.0) ps) refl r.1
@@ -307,9 +305,9 @@ hinted f ps t h a e =
     of_entry p None b k ok = absurd (cc ok)
     of_entry p (Some entry) b k ok =
         let m = find-passes (is_entry_of t.id) p.entries entry k in
-        let same : entry.txn ≡ t = h.coherent.one_of_a_number entry.txn t (entered-all ps entry.txn (entered-from ps p entry b m.0)) a (same_id-tells entry.txn.id t.id m.1) in
+        let same : entry.txn ≡ t = h.counted.coherent.one_of_a_number entry.txn t (entered-all ps entry.txn (entered-from ps p entry b m.0)) a (same_id-tells entry.txn.id t.id m.1) in
         subst (λ (u : Transaction). fits_base (base_of ps) u ≡ true) same
-        (subst (λ (base : BaseState). fits_base base entry.txn ≡ true) (h.one_base p b) ((h.fit p entry b m.0).voted ok))
+        (subst (λ (base : BaseState). fits_base base entry.txn ≡ true) (h.counted.one_base p b) ((h.counted.fit p entry b m.0).voted ok))
 
     voted : (r : ℕ) (x : Option PromiseState) → find (λ p. p.replica == r) ps ≡ x → passes (λ (e : Entry). passes is_ok_vote e.vote) (option_and_then (λ p. entry_of t.id p.entries) x) ≡ true → fits_base (base_of ps) t ≡ true
     voted r None k ok = absurd (cc ok)
@@ -318,7 +316,7 @@ hinted f ps t h a e =
 -- ---- commits
 
 -- a candidate conflicts with a settled commit where it conflicts with a new one
-clash-same : (f : ℕ) (ps : List PromiseState) → AreCounted ps → (t : Transaction) → Among t (new_candidates f (kept_of (base_of ps)) ps)
+clash-same : (f : ℕ) (ps : List PromiseState) → IsGiven ps → (t : Transaction) → Among t (new_candidates f (kept_of (base_of ps)) ps)
     → list_any (conflict t) (settled_commits f ps) ≡ list_any (conflict t) (new_commits f (kept_of (base_of ps)) ps)
 clash-same f ps h t a = agree (list_any (conflict t) (settled_commits f ps)) (list_any (conflict t) (new_commits f kept ps)) to back
   where
@@ -370,7 +368,7 @@ all_taken f ps = taken (settled_commits f ps) (candidates f ps)
 abbrev new_taken : ℕ → List PromiseState → List Transaction
 new_taken f ps = taken (new_commits f (kept_of (base_of ps)) ps) (new_candidates f (kept_of (base_of ps)) ps)
 
-fate-same : (f epoch : ℕ) (ps : List PromiseState) (t : Transaction) → AreCounted ps → IsFresh ps t
+fate-same : (f epoch : ℕ) (ps : List PromiseState) (t : Transaction) → IsGiven ps → IsFresh ps t
     → fate_by epoch t (all_taken f ps) (settled_fate f ps t.id) ≡ fate_by epoch t (new_taken f ps) (entered_fate f ps t.id)
 fate-same f epoch ps t h fresh = ap (fate_by epoch t (all_taken f ps)) (settled-new f ps t fresh.fresh) ∙ by (entered_fate f ps t.id) refl
   where
@@ -387,6 +385,50 @@ fate-same f epoch ps t h fresh = ap (fate_by epoch t (all_taken f ps)) (settled-
     by (Some outcome) e = refl
     by None e = ap (λ (b : Bool). cond b Commit (Rattle.mk_txn.specs.declared.Outcome.TheVariants.Abort (Rattle.mk_txn.specs.declared.Cause.TheVariants.Epoch epoch))) (among e)
 
+-- ---- what is new, gathered
+
+pub filter-append : {X : Type 0} (p : X → Bool) (xs ys : List X) → filter p (xs ++ ys) ≡ filter p xs ++ filter p ys
+filter-append p [] ys = refl
+filter-append {X} p (x ∷ xs) ys = by (p x) (filter-append p xs ys)
+  where
+    by : (b : Bool) → filter p (xs ++ ys) ≡ filter p xs ++ filter p ys → cond b (x ∷ filter p (xs ++ ys)) (filter p (xs ++ ys)) ≡ cond b (x ∷ filter p xs) (filter p xs) ++ filter p ys
+    by true again = ap (λ zs. x ∷ zs) again
+    by false again = again
+
+-- with the promises that are left it comes to what is new of all
+pub entered-next : (p : Transaction → Bool) (ps : List PromiseState) (i : ℕ) (x : PromiseState) (entries : List Entry) (old new all : List Transaction) → i < length ps → x ≡ get_or ps i x → entries ≡ x.entries
+    → new ≡ old ++ filter p (map (λ (e : Entry). e.txn) entries) → old ++ filter p (entered_txns (drop i ps)) ≡ all → new ++ filter p (entered_txns (drop (i + 1) ps)) ≡ all
+entered-next p ps i x entries old new all within is same made h =
+    ap (λ (ts : List Transaction). ts ++ filter p (entered_txns (drop (i + 1) ps))) (made ∙ ap (λ es. old ++ filter p (map (λ (e : Entry). e.txn) es)) same)
+    ∙ append_assoc old (filter p (map (λ (e : Entry). e.txn) x.entries)) (filter p (entered_txns (drop (i + 1) ps)))
+    ∙ ap (λ ts. old ++ ts) (sym (filter-append p (map (λ (e : Entry). e.txn) x.entries) (entered_txns (drop (i + 1) ps))))
+    ∙ ap (λ left. old ++ filter p (entered_txns left)) (sym (drop-at ps i x within is))
+    ∙ h
+
+pub new-coherent : (kept : KeptOutcomes) (ps : List PromiseState) → AreCoherent (entered_txns ps) → AreCoherent (filter (λ txn. is_new kept txn.id) (entered_txns ps))
+new-coherent kept ps h = AreCoherent-within (filter (λ txn. is_new kept txn.id) (entered_txns ps)) (entered_txns ps) (λ t a. (Among-passing (λ (u : Transaction). is_new kept u.id) t (entered_txns ps) a).0) h
+
+pub new-distinct : (kept : KeptOutcomes) (ps : List PromiseState) (p : Transaction → Bool) → AreCoherent (entered_txns ps) → AllDistinct (map (λ txn. txn.stamp) (filter p (new_txns kept ps)))
+new-distinct kept ps p coherent =
+    stamps-distinct (entered_txns ps) (filter p (new_txns kept ps)) coherent
+    (λ t a. (Among-passing (λ (u : Transaction). is_new kept u.id) t (entered_txns ps) (Among-ordered t (filter (λ u. is_new kept u.id) (entered_txns ps)) (Among-passing p t (new_txns kept ps) a).0)).0)
+    (AreInOrder-filter p (new_txns kept ps) (AreInOrder-ordered (filter (λ u. is_new kept u.id) (entered_txns ps))))
+
+-- what a merge adds, put together from what was found
+pub additions-are : (f epoch : ℕ) (kept : KeptOutcomes) (ps : List PromiseState) (txns before waiting ordered commits : List Transaction) (list : List Fated)
+    → txns ≡ new_txns kept ps
+    → before ≡ filter (λ txn. passes is_commit (entered_fate f ps txn.id)) txns
+    → waiting ≡ filter (λ txn. is_none (entered_fate f ps txn.id) && nat_le (hint_of f) (ok_reports f ps txn.id)) txns
+    → ordered ≡ in_stamp_order waiting
+    → commits ≡ taken before ordered
+    → list ≡ map (λ txn. fated txn (fate_by epoch txn commits (entered_fate f ps txn.id))) txns
+    → list ≡ additions f epoch kept ps
+additions-are f epoch kept ps txns before waiting ordered commits list txns_is before_is waiting_is ordered_is commits_is list_is =
+    let settled : before ≡ new_commits f kept ps = before_is ∙ ap (filter (λ txn. passes is_commit (entered_fate f ps txn.id))) txns_is in
+    let in_turn : ordered ≡ new_candidates f kept ps = ordered_is ∙ ap in_stamp_order (waiting_is ∙ ap (filter (λ txn. is_none (entered_fate f ps txn.id) && nat_le (hint_of f) (ok_reports f ps txn.id))) txns_is) in
+    let all : commits ≡ taken (new_commits f kept ps) (new_candidates f kept ps) = commits_is ∙ (λ i. taken (settled i) (in_turn i)) in
+    list_is ∙ (λ i. map (λ txn. fated txn (fate_by epoch txn (all i) (entered_fate f ps txn.id))) (txns_is i))
+
 -- ---- the whole
 
 each-from : {X : Type 0} (P : X → Type 0) (xs : List X) → ((x : X) → Among x xs → P x) → Each P xs
@@ -397,22 +439,22 @@ fated-order : (list : List Fated) → IsInIdOrder list → InOrder (λ g. g.txn.
 fated-order [] h = tt
 fated-order (g ∷ list) h = (h.0, fated-order list h.1)
 
-additions-apart : (f epoch : ℕ) (ps : List PromiseState) → AreCounted ps → AreApart (additions f epoch (kept_of (base_of ps)) ps) (base_of ps).list
+pub additions-apart : (f epoch : ℕ) (ps : List PromiseState) → IsGiven ps → AreApart (additions f epoch (kept_of (base_of ps)) ps) (base_of ps).list
 additions-apart f epoch ps h = each-from (λ (g : Fated). IsApart g.txn.id (base_of ps).list) (additions f epoch (kept_of (base_of ps)) ps) (λ g a.
     let t = Among-mapped (λ txn. fated txn (fate_by epoch txn (new_taken f ps) (entered_fate f ps txn.id))) g (new_txns (kept_of (base_of ps)) ps) a in
     let fresh = fresh-from ps t.0 h t.1 in
     each-from (λ (x : Fated). x.txn.id ≡ g.txn.id → ⊥) (base_of ps).list (λ x b e.
-        let is : fate_in (t.0).id (base_of ps).list ≡ Some x.outcome =
-        ap (λ (i : TxnId). fate_in i (base_of ps).list) (ap (λ (y : Fated). y.txn.id) t.2 ∙ sym e) ∙ fate-there (base_of ps).list x h.in_order b in
-        let none : fate_in (t.0).id (base_of ps).list ≡ None = fresh.fresh in
-        absurd (cc (sym none ∙ is))))
+    let is : fate_in (t.0).id (base_of ps).list ≡ Some x.outcome =
+    ap (λ (i : TxnId). fate_in i (base_of ps).list) (ap (λ (y : Fated). y.txn.id) t.2 ∙ sym e) ∙ fate-there (base_of ps).list x h.in_order b in
+    let none : fate_in (t.0).id (base_of ps).list ≡ None = fresh.fresh in
+    absurd (cc (sym none ∙ is))))
 
 pub additions-in_order : (f epoch : ℕ) (kept : KeptOutcomes) (ps : List PromiseState) → IsInIdOrder (additions f epoch kept ps)
 additions-in_order f epoch kept ps =
     IsInIdOrder-fated (λ txn. fate_by epoch txn (taken (new_commits f kept ps) (new_candidates f kept ps)) (entered_fate f ps txn.id)) (new_txns kept ps)
     (AreInOrder-ordered (filter (λ u. is_new kept u.id) (entered_txns ps)))
 
-pub merged-added : (f epoch : ℕ) (ps : List PromiseState) → AreCounted ps
+pub merged-added : (f epoch : ℕ) (ps : List PromiseState) → IsGiven ps
     → (merged_from f epoch ps).list ≡ with_fated (additions f epoch (kept_of (base_of ps)) ps) (base_of ps).list
 merged-added f epoch ps h = same-members (λ g. g.txn.id) all new
     (fated-order all (IsInIdOrder-fated (λ txn. fate_by epoch txn (all_taken f ps) (settled_fate f ps txn.id)) (reported_txns ps) (AreInOrder-ordered (all_of ps))))

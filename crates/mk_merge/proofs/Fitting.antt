@@ -1,6 +1,5 @@
 -- What fits a base conflicts with none of its commits.
 use Rattle.std.proofs.Common.{◌≡◌, ℕ, inl, inr, Bool, true, false, not, refl, sym, ap, subst, ◌∙◌, List, [], ◌∷◌, cond, ◌||◌, ◌==◌, arith}
-use Rattle.std.specs.List.{list_any, list_all}
 use Rattle.std.proofs.lemmas.Bool.{false≢true}
 use Rattle.std.proofs.lemmas.Bool.Decides.{nat_tests}
 use Rattle.mk_lists.specs.Among.{Among}

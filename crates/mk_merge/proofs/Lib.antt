@@ -11,8 +11,10 @@ pub mod OrderLaws
 pub mod FateLaws
 pub mod StampLaws
 pub mod BaseLaws
-pub mod StandLaws
+pub mod JoiningLaws
 pub mod Members
 pub mod Fitting
 pub mod AddingLaws
+pub mod StandLaws
+pub mod MergedLaws
 pub mod Examples

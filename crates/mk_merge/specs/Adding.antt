@@ -1,17 +1,19 @@
 -- What a merge adds to the base of the promises that count: the attempts that entries report and the base does not have.
-use Rattle.std.specs.Prelude.{ℕ, Bool, List, [], ◌∷◌, Option, map, filter, flat_map, is_none, not, ◌&&◌, nat_le, if◌then◌else◌}
+use Rattle.std.specs.Prelude.{◌≡◌, ◌<◌, ℕ, Bool, true, false, List, [], ◌∷◌, ◌++◌, length, slice_index_or, Option, map, filter, flat_map, is_none, not, ◌&&◌, nat_le, if◌then◌else◌}
+use Rattle.mk_lists.specs.Among.{Among}
 use Rattle.std.specs.Option.{option_or}
 use Rattle.mk_txn.specs.declared.TxnId.{TxnId}
 use Rattle.mk_txn.specs.declared.Outcome.{Outcome}
 use Rattle.mk_txn.specs.MarkMaps.{covers}
 use Rattle.mk_txn.specs.Outcomes.{is_commit}
-use Rattle.mk_txn.specs.Transactions.{Transaction, id_before}
+use Rattle.mk_txn.specs.Transactions.{Transaction, AreCoherent, id_before}
+use Rattle.mk_record.specs.declared.Entry.{Entry}
 use Rattle.mk_quorum.specs.Sizes.{hint_of}
 use Rattle.mk_quorum.specs.Slots.{passes}
 use Rattle.mk_trim.specs.KeptOutcomes.{KeptOutcomes, outcome_of}
 use Rattle.mk_merge.specs.declared.Fated.{Fated}
 use Rattle.mk_merge.specs.Bases.{fated, in_id_order, in_stamp_order}
-use Rattle.mk_merge.specs.Promises.{PromiseState}
+use Rattle.mk_merge.specs.Promises.{PromiseState, EntryFits, base_of}
 use Rattle.mk_merge.specs.Merging.{reports, first_last, highest_accepted, ok_reports, taken, fate_by}
 
 -- nothing is kept of the attempt, and it is not forgotten
@@ -53,3 +55,17 @@ put_fated f (first ∷ rest) = if id_before first.txn.id f.txn.id then first ∷
 abbrev pub with_fated : List Fated → List Fated → List Fated
 with_fated [] list = list
 with_fated (f ∷ more) list = with_fated more (put_fated f list)
+
+-- which of two lists the next is taken from, where each is taken up to a place: the one whose next is first, and the
+-- other where one is at its end
+pub record TakesAdded (list : List Fated) (at : ℕ) (more : List Fated) (next : ℕ) (added : Bool) : Type 0 where
+  pub more_within : added ≡ true → next < length more
+  pub more_first : (d : Fated) → added ≡ true → at < length list → id_before (slice_index_or list at d).txn.id (slice_index_or more next d).txn.id ≡ false
+  pub list_within : added ≡ false → next < length more → at < length list
+  pub list_first : (d : Fated) → added ≡ false → next < length more → id_before (slice_index_or list at d).txn.id (slice_index_or more next d).txn.id ≡ true
+
+-- what is asked of the promises that count: they have one base, and the entries fit it
+pub record AreCounted (ps : List PromiseState) : Type 0 where
+  pub coherent : AreCoherent (map (λ f. f.txn) (base_of ps).list ++ entered_txns ps)
+  pub one_base : (p : PromiseState) → Among p ps → p.base ≡ base_of ps
+  pub fit : (p : PromiseState) (e : Entry) → Among p ps → Among e p.entries → EntryFits p.base e

@@ -6,3 +6,4 @@ pub mod Promises
 pub mod Merging
 pub mod Keepings
 pub mod Adding
+pub mod Handing
