@@ -10,7 +10,7 @@ use Rattle.mk_txn.specs.Transactions.{Transaction, AreCoherent, id_before}
 use Rattle.mk_record.specs.declared.Entry.{Entry}
 use Rattle.mk_quorum.specs.Sizes.{hint_of}
 use Rattle.mk_quorum.specs.Slots.{passes}
-use Rattle.mk_trim.specs.KeptOutcomes.{KeptOutcomes, outcome_of}
+use Rattle.mk_trim.specs.KeptOutcomes.{KeptOutcomes, outcome_of, with_outcome}
 use Rattle.mk_merge.specs.declared.Fated.{Fated}
 use Rattle.mk_merge.specs.Bases.{fated, in_id_order, in_stamp_order}
 use Rattle.mk_merge.specs.Promises.{PromiseState, EntryFits, base_of}
@@ -55,6 +55,11 @@ put_fated f (first ∷ rest) = if id_before first.txn.id f.txn.id then first ∷
 abbrev pub with_fated : List Fated → List Fated → List Fated
 with_fated [] list = list
 with_fated (f ∷ more) list = with_fated more (put_fated f list)
+
+-- what is kept after the outcomes of these, put one after another
+abbrev pub put_fates : List Fated → KeptOutcomes → KeptOutcomes
+put_fates [] kept = kept
+put_fates (f ∷ list) kept = put_fates list (with_outcome f.txn.id f.outcome kept)
 
 -- which of two lists the next is taken from, where each is taken up to a place: the one whose next is first, and the
 -- other where one is at its end

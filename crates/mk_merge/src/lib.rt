@@ -16,6 +16,7 @@ mod tests;
 pub use choosing::counted;
 pub use keeping::Keeping;
 pub use merging::added;
+pub use rebuilding::Left;
 use mk_record::Entry;
 use mk_trim::Kept;
 use mk_txn::{Marks, NoMemory, Outcome, Txn};

@@ -1,0 +1,2 @@
+-- Snapshots of bases.
+pub mod Snapshots
