@@ -135,7 +135,7 @@ order-put f (first ∷ rest) n h = by (id_before first.txn.id f.txn.id) refl (or
 abbrev pub AreApart : List Fated → List Fated → Type 0
 AreApart more list = Each (λ (f : Fated). IsApart f.txn.id list) more
 
-apart-later : (f : Fated) (rest : List Fated) → Each (λ (g : Fated). id_before f.txn.id g.txn.id ≡ true) rest → (list : List Fated) → AreApart rest list → AreApart rest (put_fated f list)
+pub apart-later : (f : Fated) (rest : List Fated) → Each (λ (g : Fated). id_before f.txn.id g.txn.id ≡ true) rest → (list : List Fated) → AreApart rest list → AreApart rest (put_fated f list)
 apart-later f [] h list n = tt
 apart-later f (g ∷ rest) h list n =
     (Each-put (λ (x : Fated). x.txn.id ≡ g.txn.id → ⊥) f list (λ e. false≢true (sym (id_before-itself f.txn.id) ∙ subst (λ (i : TxnId). id_before f.txn.id i ≡ true) (sym e) h.0)) n.0, apart-later f rest h.1 list n.1)

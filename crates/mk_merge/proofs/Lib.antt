@@ -17,4 +17,5 @@ pub mod Fitting
 pub mod AddingLaws
 pub mod StandLaws
 pub mod MergedLaws
+pub mod BaseWith
 pub mod Examples

@@ -7,12 +7,14 @@ mod snap;
 
 use mk_merge::Left;
 use mk_trim::Kept;
+use std::alloc::Global;
 use std::collections::BTreeMap;
 use std::marker::Model;
 
 /// What is asked of a base once it is made, without its transactions.
 #[derive(Drop, Debug)]
 pub struct Snap {
+    alloc: Global,
     kept: Kept,
     // what the commits leave at each key that they read or wrote
     lefts: BTreeMap<u32, Left>,

@@ -37,7 +37,11 @@ impl Snap {
         kept.cover(&more.marks)?;
         let mut lefts = self.lefts.clone()?;
         add_commits(&mut lefts, more.list.as_slice())?;
-        Ok(Snap { kept, lefts })
+        Ok(Snap {
+            alloc: self.alloc,
+            kept,
+            lefts,
+        })
     }
 }
 

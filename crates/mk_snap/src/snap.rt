@@ -49,6 +49,7 @@ impl Snap {
         ensures { IfOk result (λ snap. snap ≡ self.now) }
     {
         Ok(Snap {
+            alloc: self.alloc,
             kept: self.kept.copy()?,
             lefts: self.lefts.clone()?,
         })
@@ -58,7 +59,7 @@ impl Snap {
     fn made_cells(&self, keys: u32) -> Result<Vec<Cell>, NoMemory>
         ensures { IfOk result (λ cells. AreCells self.now.lefts keys cells.items) }
     {
-        let alloc = *self.lefts.allocator();
+        let alloc = self.alloc;
         let mut cells = Vec::new(alloc);
         for key in 0..keys {
             cells.push(left(&self.lefts, key).cell(alloc))?;
@@ -72,6 +73,7 @@ impl Keeping for Snap {
 
     fn empty(alloc: Global) -> Snap {
         Snap {
+            alloc,
             kept: Kept::new(alloc),
             lefts: BTreeMap::new(alloc),
         }
