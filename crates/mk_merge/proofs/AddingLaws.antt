@@ -499,3 +499,10 @@ merged-added f epoch ps h = same-members (λ g. g.txn.id) all new
           subst (λ (x : Fated). Among x all) (new-made t.0 fresh ∙ t.2) (Among-mapping made t.0 (reported_txns ps) (reported-from ps t.0 h (entered-all ps t.0 fresh.entered)))
       | inr b ↦ subst (λ (x : Fated). Among x all) (old-made g.txn g b refl) (Among-mapping made g.txn (reported_txns ps) (reported-from ps g.txn h (based-all ps g b)))
     ]
+
+-- what is added was entered
+pub additions-from : (f epoch : ℕ) (kept : KeptOutcomes) (ps : List PromiseState) (g : Fated) → Among g (additions f epoch kept ps) → Among g.txn (entered_txns ps)
+additions-from f epoch kept ps g a =
+    let t = Among-mapped (λ txn. fated txn (fate_by epoch txn (taken (new_commits f kept ps) (new_candidates f kept ps)) (entered_fate f ps txn.id))) g (new_txns kept ps) a in
+    subst (λ (u : Transaction). Among u (entered_txns ps)) (ap (λ (x : Fated). x.txn) t.2)
+    (Among-passing (λ (u : Transaction). is_new kept u.id) t.0 (entered_txns ps) (Among-ordered t.0 (filter (λ u. is_new kept u.id) (entered_txns ps)) t.1)).0

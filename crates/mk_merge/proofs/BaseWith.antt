@@ -1,10 +1,10 @@
 -- What is kept of a base and what its commits leave at a key, once more is added to its list.
-use Rattle.std.proofs.Common.{◌≡◌, ℕ, ◌≤◌, max, Bool, true, false, not, refl, sym, ap, subst, ◌∙◌, List, [], ◌∷◌, ◌++◌, filter, map, cond, arith, ◌==◌, inl, inr}
+use Rattle.std.proofs.Common.{◌≡◌, ℕ, ◌≤◌, max, Bool, true, false, not, refl, sym, ap, subst, ◌∙◌, List, [], ◌∷◌, cond, arith, ◌==◌, inl, inr}
 use Rattle.std.proofs.lemmas.Bool.{false≢true}
 use Rattle.std.proofs.lemmas.Bool.Decides.{nat_tests}
 use Rattle.std.specs.Prelude.{nat_le}
 use Rattle.std.specs.List.{list_any}
-use Rattle.mk_lists.specs.Among.{Among, Each, Each-among, Each-weaker}
+use Rattle.mk_lists.specs.Among.{Among, Each, Each-weaker}
 use Rattle.mk_txn.specs.declared.TxnId.{TxnId}
 use Rattle.mk_txn.specs.declared.Outcome.{Outcome}
 use Rattle.mk_txn.specs.declared.Stamp.{Stamp}
@@ -16,10 +16,10 @@ use Rattle.mk_txn.specs.Outcomes.{is_commit}
 use Rattle.mk_txn.specs.Stamps.{is_before, later_stamp}
 use Rattle.mk_txn.specs.LatestWrites.{VersionedValue, after_write, after_writes}
 use Rattle.mk_txn.specs.Transactions.{Transaction, AreCoherent, same_id, id_before}
-use Rattle.mk_txn.proofs.IdOrder.{id_before-not_back, id_before-not_same, id_before-through, id-from_neither, same_id-tells}
-use Rattle.mk_txn.proofs.StampOrder.{same-from_neither, is_before-not_back, is_before-itself, is_before-through, not_before-through, is_before-up, is_before-down}
+use Rattle.mk_txn.proofs.IdOrder.{id_before-not_back, id_before-through, id-from_neither, same_id-tells}
+use Rattle.mk_txn.proofs.StampOrder.{same-from_neither, is_before-not_back, is_before-up}
 use Rattle.mk_txn.proofs.MarkLaws.{IsMarkMap-raised, IsMarkMap-joined, mark_of-raised, mark_of-raised_other, mark_of-joined, MarkMap-from_marks}
-use Rattle.mk_trim.specs.KeptOutcomes.{KeptOutcomes, Outcomes, put_outcome, with_outcome, not_covered, covered_by}
+use Rattle.mk_trim.specs.KeptOutcomes.{Outcomes, put_outcome, not_covered, covered_by}
 use Rattle.mk_merge.specs.declared.Fated.{Fated}
 use Rattle.mk_merge.specs.Bases.{BaseState, IsBase, IsInIdOrder, fates_in, kept_of, commits_in}
 use Rattle.mk_merge.specs.Promises.{PromiseState}
@@ -66,9 +66,9 @@ marks-up marks (p ∷ ps) client h =
 pub raised-joined : (marks : MarkMap) (ps : List PromiseState) → IsMarkMap marks → IsMarkMap (raised_marks marks ps) → joined_marks marks (raised_marks marks ps) ≡ raised_marks marks ps
 raised-joined marks ps h k =
     MarkMap-from_marks (joined_marks marks (raised_marks marks ps)) (raised_marks marks ps) (IsMarkMap-joined marks (raised_marks marks ps) h) k (λ client.
-        let is = mark_of-joined marks (raised_marks marks ps) client h k in
-        let up = marks-up marks ps client h in
-        grind (arith, nat_tests, is, up))
+    let is = mark_of-joined marks (raised_marks marks ps) client h k in
+    let up = marks-up marks ps client h in
+    grind (arith, nat_tests, is, up))
 
 -- ---- what is kept
 
@@ -322,10 +322,11 @@ left-with key left (f ∷ more) list h =
 pub fresh-from : (all : List Transaction) (more list : List Fated) → AreCoherent all → ((f : Fated) → Among f more → Among f.txn all) → ((g : Fated) → Among g list → Among g.txn all)
     → IsInIdOrder more → AreApart more list → AreFresh more list
 fresh-from all [] list coherent of_more of_list d n = tt
-fresh-from all (f ∷ more) list coherent of_more of_list d n =
-    (each list n.0 of_list,
-    fresh-from all more (put_fated f list) coherent (λ g a. of_more g (inr a))
-    (λ g a. elim (put-from f g list a) [ inl e ↦ of_more g (inl e) | inr b ↦ of_list g b ]) d.1 (apart-later f more d.0 list n.1))
+fresh-from all (f ∷ more) list coherent of_more of_list d n = (
+  each list n.0 of_list,
+  fresh-from all more (put_fated f list) coherent (λ g a. of_more g (inr a))
+      (λ g a. elim (put-from f g list a) [ inl e ↦ of_more g (inl e) | inr b ↦ of_list g b ]) d.1 (apart-later f more d.0 list n.1),
+)
   where
     each : (gs : List Fated) → IsApart f.txn.id gs → ((g : Fated) → Among g gs → Among g.txn all) → IsFresh f.txn.stamp gs
     each [] k of_gs = tt

@@ -200,3 +200,7 @@ counting-listed f epoch ps = stand-listed (counting_of (chosen_of f epoch ps)) (
 
 pub listed-enough : (f epoch : ℕ) (ps : List (Promise BaseState)) → are_enough f epoch ps ≡ can_merge f epoch (map listed ps)
 listed-enough f epoch ps = stand-enough (λ base other. base ≡ other) f epoch ps (map listed ps) (stand-self ps)
+
+pub ok-both : {A E : Type 0} (r : Result A E) (P Q R : A → Type 0) → ((a : A) → P a → Q a → R a) → IfOk r P → IfOk r Q → IfOk r R
+ok-both (Ok a) P Q R f h k = f a h k
+ok-both (Err e) P Q R f h k = h

@@ -16,10 +16,10 @@ mod tests;
 pub use choosing::counted;
 pub use keeping::Keeping;
 pub use merging::added;
-pub use rebuilding::Left;
 use mk_record::Entry;
 use mk_trim::Kept;
 use mk_txn::{Marks, NoMemory, Outcome, Txn};
+pub use rebuilding::Left;
 use std::marker::Model;
 
 /// A transaction with its outcome in a base.

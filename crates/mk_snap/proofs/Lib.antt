@@ -1,1 +1,2 @@
-
+pub mod LeftsLaws
+pub mod SnapLaws

@@ -78,10 +78,7 @@ fn add(lefts: &mut BTreeMap<u32, Left>, txn: &Txn) -> Result<(), NoMemory>
 }
 
 // The commits of the list besides.
-pub(crate) fn add_commits(
-    lefts: &mut BTreeMap<u32, Left>,
-    list: &[Fated],
-) -> Result<(), NoMemory>
+pub(crate) fn add_commits(lefts: &mut BTreeMap<u32, Left>, list: &[Fated]) -> Result<(), NoMemory>
     ensures { OnOk result (AreAdded (commits_in list.now) lefts.old.entries lefts.new.entries) }
 {
     for fated in list {

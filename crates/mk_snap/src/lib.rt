@@ -1,9 +1,9 @@
 //! Bases kept as snapshots: the outcomes that the marks do not cover, the marks, and what the commits leave at each key.
 #![tactic(auto)]
 
+mod keeping;
 mod lefts;
 mod merging;
-mod snap;
 
 use mk_merge::Left;
 use mk_trim::Kept;

@@ -27,6 +27,13 @@ fn put_all(kept: &mut Kept, list: &[Fated]) -> Result<(), NoMemory>
 }
 
 impl Snap {
+    // The outcomes that the marks do not cover, and the marks.
+    pub(crate) fn kept(&self) -> &Kept
+        ensures { result.now ≡ self.now.kept }
+    {
+        &self.kept
+    }
+
     // The snapshot with what a merge adds to its base.
     fn with(&self, more: &Addition) -> Result<Snap, NoMemory>
         ensures kept { IfOk result (λ snap. snap.kept ≡ covered_by more.now.marks (put_fates more.now.list.items self.now.kept)) }
@@ -58,7 +65,7 @@ fn merge_counting(
     let Some(first) = promises.first() else {
         return Ok(Snap::empty(alloc));
     };
-    let more = added(alloc, size, epoch, &first.base.kept, promises)?;
+    let more = added(alloc, size, epoch, first.base.kept(), promises)?;
     first.base.with(&more)
 }
 

@@ -23,9 +23,7 @@ impl Snap {
     fn reads_fit(&self, txn: &Txn) -> bool
         ensures { result ≡ list_all (λ item. not (is_before item.version (left_at item.key self.now.lefts).latest.version)) txn.now.reads }
     {
-        txn.reads()
-            .iter()
-            .all(|item| !precedes(item.version, left(&self.lefts, item.key).wts()))
+        txn.reads().iter().all(|item| !precedes(item.version, left(&self.lefts, item.key).wts()))
     }
 
     // Whether no write is below the last read of its key.
@@ -80,7 +78,7 @@ impl Keeping for Snap {
     }
 
     fn fates(&self) -> &Kept {
-        &self.kept
+        self.kept()
     }
 
     fn fits(&self, txn: &Txn) -> bool {
