@@ -1,2 +1,3 @@
 -- Snapshots of bases.
 pub mod Snapshots
+pub mod Rows

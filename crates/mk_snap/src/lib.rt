@@ -4,6 +4,8 @@
 mod keeping;
 mod lefts;
 mod merging;
+#[cfg(test)]
+mod tests;
 
 use mk_merge::Left;
 use mk_trim::Kept;
