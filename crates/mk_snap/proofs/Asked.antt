@@ -1,5 +1,5 @@
 -- The promises of the worked cases meet the conditions of a merge.
-use Rattle.std.proofs.Common.{◌≡◌, ◌⊎◌, ℕ, true, false, refl, sym, ap, ◌∙◌, inl, inr, List, [], ◌∷◌, arith}
+use Rattle.std.proofs.Common.{◌≡◌, ◌⊎◌, false, refl, sym, ap, ◌∙◌, inl, inr, List, [], ◌∷◌, arith}
 use Rattle.std.specs.Prelude.{flat_map}
 use Rattle.mk_lists.specs.Among.{Among, Each, Each-among}
 use Rattle.mk_txn.specs.declared.Stamp.{Stamp}
@@ -8,9 +8,10 @@ use Rattle.mk_txn.specs.MarkMaps.{covers}
 use Rattle.mk_txn.specs.Transactions.{Transaction, AreCoherent}
 use Rattle.mk_record.specs.declared.Entry.{Entry}
 use Rattle.mk_merge.specs.Bases.{empty_base}
+use Rattle.mk_merge.specs.Merging.{merged}
 use Rattle.mk_merge.specs.Promises.{PromiseState, ArePromises, EntryFits, promised_txns}
 use Rattle.mk_merge.proofs.Examples.{fits-empty}
-use Rattle.mk_snap.specs.Rows.{reader, writer, conflicting, early, late, finished}
+use Rattle.mk_snap.specs.Rows.{reader, writer, conflicting, early, late, second, finished, covered, adopted_by_two}
 
 -- transactions that are each one of two
 two-coherent : (a b : Transaction) (all : List Transaction) → (a.id ≡ b.id → ⊥) → (a.stamp ≡ b.stamp → ⊥) → Each (λ t. (t ≡ a) ⊎ (t ≡ b)) all → AreCoherent all
@@ -64,3 +65,33 @@ finished-asked = record {
   where
     client : late.id ≡ early.id → ⊥
     client e = let k : late.id.client ≡ early.id.client = ap (λ (i : TxnId). i.client) e in omega (arith, k)
+
+-- the client's two attempts
+attempts-apart : early.id ≡ second.id → ⊥
+attempts-apart e = let k : early.id.seq ≡ second.id.seq = ap (λ (i : TxnId). i.seq) e in omega (arith, k)
+
+attempts-coherent : AreCoherent (early ∷ second ∷ early ∷ second ∷ [])
+attempts-coherent = two-coherent early second (early ∷ second ∷ early ∷ second ∷ []) attempts-apart
+    (λ e. let k : early.stamp.time ≡ second.stamp.time = ap (λ (s : Stamp). s.time) e in omega (arith, k))
+    (inl refl, (inr refl, (inl refl, (inr refl, tt))))
+
+pub covered-asked : ArePromises covered
+covered-asked = record {
+  distinct_replicas = ((λ a. elim a [ inl e ↦ absurd (omega (arith, e)) | inr n ↦ n ]), ((λ a. a), tt));
+  distinct_ids = (((λ a. elim a [ inl e ↦ absurd (attempts-apart (sym e)) | inr n ↦ n ]), ((λ a. a), tt)), (((λ a. elim a [ inl e ↦ absurd (attempts-apart (sym e)) | inr n ↦ n ]), ((λ a. a), tt)), tt));
+  one_base = one-base covered (refl, (refl, tt));
+  coherent = attempts-coherent;
+  entries_fit = ((fits _ refl, (fits _ refl, tt)), ((fits _ refl, (fits _ refl, tt)), tt));
+}
+
+pub adopted-asked : ArePromises (adopted_by_two (merged 1 1 covered))
+adopted-asked = record {
+  distinct_replicas = ((λ a. elim a [ inl e ↦ absurd (omega (arith, e)) | inr n ↦ n ]), ((λ a. a), tt));
+  distinct_ids = (tt, (tt, tt));
+  one_base = λ p q a b e. same p a ∙ sym (same q b);
+  coherent = attempts-coherent;
+  entries_fit = (tt, (tt, tt));
+}
+  where
+    same : (p : PromiseState) → Among p (adopted_by_two (merged 1 1 covered)) → p.base ≡ merged 1 1 covered
+    same p a = Each-among (λ (s : PromiseState). s.base ≡ merged 1 1 covered) p (adopted_by_two (merged 1 1 covered)) (refl, (refl, tt)) a

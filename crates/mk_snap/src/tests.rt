@@ -1,7 +1,8 @@
 ghost use Rattle.std.specs.Prelude.{◌≡◌, [], ◌∷◌, None, Some, IfOk};
 ghost use Rattle.mk_txn.specs.declared.Value.TheVariants.{Number};
 ghost use Rattle.mk_merge.specs.Keepings.{PromiseStands, Stand};
-ghost use Rattle.mk_snap.specs.Rows.{reader as is_reader, writer as is_writer, early as is_early, late as is_late, voted, promised, conflicting as are_conflicting, finished as are_finished};
+ghost use Rattle.mk_snap.specs.Rows.{reader as is_reader, writer as is_writer, early as is_early, late as is_late, second as is_second, voted, promised, conflicting as are_conflicting, finished as are_finished, covered as are_covered, two_entries, promised_on, adopted_by_two};
+ghost use Rattle.mk_merge.specs.Bases.{BaseState};
 
 use crate::Snap;
 use mk_cell::{Act, Answer};
@@ -17,9 +18,15 @@ use std::process::Abort;
 use std::test::Fail;
 
 const READER: TxnId = TxnId { client: 1, seq: 1 };
+
 const WRITER: TxnId = TxnId { client: 2, seq: 1 };
+
 const EARLY: TxnId = TxnId { client: 1, seq: 1 };
+
+const SECOND: TxnId = TxnId { client: 1, seq: 2 };
+
 const LATE: TxnId = TxnId { client: 2, seq: 1 };
+
 const OTHER: TxnId = TxnId { client: 3, seq: 1 };
 
 fn stamp(time: u64, client: u32) -> Stamp
@@ -77,6 +84,13 @@ fn late(alloc: Global) -> Result<Txn, TxnError>
     ensures { IfOk result (λ txn. txn ≡ is_late) }
 {
     Txn::new(alloc, LATE, stamp(20, 2), &[read(10, 1, 5)], &[])
+}
+
+// Writes key 1 at 20.1.
+fn second(alloc: Global) -> Result<Txn, TxnError>
+    ensures { IfOk result (λ txn. txn ≡ is_second) }
+{
+    Txn::new(alloc, SECOND, stamp(20, 1), &[], &[write(1, 6)])
 }
 
 fn size_of(f: u32) -> Result<Size, Fail>
@@ -206,6 +220,85 @@ fn later_ones_fit_a_list(rt: HostRuntime) -> Result<(), Fail> {
 #[test]
 fn later_ones_fit_a_snapshot(rt: HostRuntime) -> Result<(), Fail> {
     later_ones_fit::<Snap>(&rt, rt.alloc())
+}
+
+// Final commits of two attempts of a client.
+fn two_commits(alloc: Global) -> Result<Vec<Entry>, Fail>
+    ensures { IfOk result (λ entries. entries.items ≡ two_entries) }
+{
+    let commit = Some(Outcome::Commit);
+    let mut entries = one(alloc, entry(early(alloc)?, None, commit))?;
+    entries.push(entry(second(alloc)?, None, commit))?;
+    Ok(entries)
+}
+
+fn one_mark(alloc: Global) -> Result<Marks, NoMemory>
+    ensures { IfOk result (λ marks. marks ≡ (1, 1) ∷ []) }
+{
+    let mut marks = Marks::new(alloc);
+    marks.raise(1, 1)?;
+    Ok(marks)
+}
+
+// Two commits of a client, the first of which one of the promises' marks cover.
+fn covered<K: Keeping>(alloc: Global) -> Result<Vec<Promise<K>>, Fail>
+    ensures { IfOk result (λ made. Stand K K.stands made.items are_covered) }
+{
+    let mut first = promise(alloc, 1, two_commits(alloc)?);
+    first.marks = one_mark(alloc)?;
+    let mut promises = Vec::new(alloc);
+    promises.push(first)?;
+    promises.push(promise(alloc, 0, two_commits(alloc)?))?;
+    Ok(promises)
+}
+
+// A promise from epoch 1 without entries.
+fn promise_on<K: Keeping>(alloc: Global, replica: u32, base: K) -> Promise<K>
+    ensures { (state : BaseState) → K.stands base state → PromiseStands K K.stands result (promised_on replica state) }
+{
+    Promise {
+        replica,
+        adopted: 1,
+        base,
+        entries: Entries::of(alloc, Vec::new(alloc)),
+        marks: Marks::new(alloc),
+    }
+}
+
+// Promises of two replicas that adopted this base.
+fn adopted<K: Keeping>(alloc: Global, base: &K) -> Result<Vec<Promise<K>>, NoMemory>
+    ensures { IfOk result (λ made. (state : BaseState) → K.stands base.now state → Stand K K.stands made.items (adopted_by_two state)) }
+{
+    let mut promises = Vec::new(alloc);
+    promises.push(promise_on(alloc, 0, base.copy()?))?;
+    promises.push(promise_on(alloc, 1, base.copy()?))?;
+    Ok(promises)
+}
+
+// A covered outcome is not counted, and stays forgotten in the epoch after.
+fn covered_is_forgotten<K: Keeping>(rt: &impl Abort, alloc: Global) -> Result<(), Fail> {
+    let size = size_of(1)?;
+    let promises: Vec<Promise<K>> = covered(alloc)?;
+    let made = K::merge(alloc, size, 1, promises.as_slice())?;
+    assert_eq!(rt; made.fates().commits(), 1);
+    let again: Vec<Promise<K>> = adopted(alloc, &made)?;
+    let next = K::merge(alloc, size, 3, again.as_slice())?;
+    assert_eq!(rt; (next.fates().commits(), next.fates().aborts()), (1, 0));
+    assert_eq!(rt; next.fates().fate(EARLY), Known::Forgotten);
+    assert_eq!(rt; next.fates().fate(SECOND), Known::Outcome(Outcome::Commit));
+    assert!(rt; !next.fits(&reader(alloc)?));
+    assert!(rt; next.fits(&late(alloc)?));
+    Ok(())
+}
+
+#[test]
+fn a_covered_outcome_is_forgotten_in_a_list(rt: HostRuntime) -> Result<(), Fail> {
+    covered_is_forgotten::<Base>(&rt, rt.alloc())
+}
+
+#[test]
+fn a_covered_outcome_is_forgotten_in_a_snapshot(rt: HostRuntime) -> Result<(), Fail> {
+    covered_is_forgotten::<Snap>(&rt, rt.alloc())
 }
 
 #[test]
