@@ -1,6 +1,6 @@
 -- What the promises that count give is a base, and its candidates have distinct stamps.
-use Rattle.std.proofs.Common.{◌≡◌, ℕ, zero, suc, inl, inr, Bool, true, false, not, refl, sym, ap, subst, ◌∙◌, List, [], ◌∷◌, ◌++◌, map, filter, take, ◌==◌, if◌then◌else◌}
-use Rattle.std.specs.Prelude.{flat_map, is_none, nat_le, ◌&&◌}
+use Rattle.std.proofs.Common.{◌≡◌, ℕ, zero, suc, inl, inr, Bool, true, false, not, refl, sym, subst, ◌∙◌, List, [], ◌∷◌, ◌++◌, map, filter, take, ◌==◌, if◌then◌else◌}
+use Rattle.std.specs.Prelude.{flat_map}
 use Rattle.std.proofs.lemmas.Bool.{false≢true}
 use Rattle.mk_lists.specs.Among.{Among, Each, Each-weaker, AllDistinct, Among-append, Among-append_left, Among-append_right, Each-among}
 use Rattle.mk_txn.specs.declared.Stamp.{Stamp}
@@ -8,16 +8,10 @@ use Rattle.mk_txn.specs.declared.TxnId.{TxnId}
 use Rattle.mk_txn.specs.declared.Outcome.{Outcome}
 use Rattle.mk_txn.specs.Transactions.{Transaction, AreCoherent, same_id, id_before}
 use Rattle.mk_txn.proofs.IdOrder.{id_before-itself, id_before-through, same_id-itself, id-from_neither}
-use Rattle.mk_txn.specs.MarkMaps.{MarkMap}
-use Rattle.mk_txn.specs.Outcomes.{is_commit}
-use Rattle.mk_quorum.specs.Sizes.{hint_of}
-use Rattle.mk_quorum.specs.Slots.{passes}
 use Rattle.mk_record.specs.declared.Entry.{Entry}
 use Rattle.mk_merge.specs.declared.Fated.{Fated}
-use Rattle.mk_merge.specs.Bases.{IsInIdOrder, fated, placed_by_id, in_id_order, in_stamp_order}
+use Rattle.mk_merge.specs.Bases.{IsInIdOrder, fated, placed_by_id, in_id_order}
 use Rattle.mk_merge.specs.Promises.{PromiseState, base_of, chosen, counting, highest_adopted, is_leaders, promised_txns}
-use Rattle.mk_merge.specs.Merging.{reported_txns, settled_fate, ok_reports, settled_commits, candidates, taken, fate_by, fates_by, merged_marks, merged_from}
-use Rattle.mk_merge.proofs.OrderLaws.{Among-ordered}
 
 -- each number is before all that follow it
 abbrev pub AreInOrder : List Transaction → Type 0
@@ -64,7 +58,7 @@ Each-filter P p (txn ∷ txns) h = by_test (Each-filter P p txns h.1) (p txn)
     by_test more true = (h.0, more)
     by_test more false = more
 
-AreInOrder-filter : (p : Transaction → Bool) (txns : List Transaction) → AreInOrder txns → AreInOrder (filter p txns)
+pub AreInOrder-filter : (p : Transaction → Bool) (txns : List Transaction) → AreInOrder txns → AreInOrder (filter p txns)
 AreInOrder-filter p [] h = tt
 AreInOrder-filter p (txn ∷ txns) h = by_test (AreInOrder-filter p txns h.1) (p txn)
   where
@@ -103,7 +97,7 @@ has_stamp stamp [] a = absurd a
 has_stamp stamp (txn ∷ txns) (inl e) = record { txn = txn; among = inl refl; is = e }
 has_stamp stamp (txn ∷ txns) (inr a) = let more = has_stamp stamp txns a in record { txn = more.txn; among = inr more.among; is = more.is }
 
-stamps-distinct : (all txns : List Transaction) → AreCoherent all → ((txn : Transaction) → Among txn txns → Among txn all) → AreInOrder txns → AllDistinct (map (λ txn. txn.stamp) txns)
+pub stamps-distinct : (all txns : List Transaction) → AreCoherent all → ((txn : Transaction) → Among txn txns → Among txn all) → AreInOrder txns → AllDistinct (map (λ txn. txn.stamp) txns)
 stamps-distinct all [] coherent within h = tt
 stamps-distinct all (txn ∷ txns) coherent within h = (fresh, stamps-distinct all txns coherent (λ t a. within t (inr a)) h.1)
   where
@@ -117,11 +111,6 @@ stamps-distinct all (txn ∷ txns) coherent within h = (fresh, stamps-distinct a
 -- all that the promises that count report, some of it repeatedly
 abbrev pub all_of : List PromiseState → List Transaction
 all_of promises = map (λ f. f.txn) (base_of promises).list ++ flat_map (λ p. map (λ e. e.txn) p.entries) promises
-
-pub candidates-distinct : (promises : List PromiseState) (p : Transaction → Bool) → AreCoherent (all_of promises) → AllDistinct (map (λ txn. txn.stamp) (filter p (reported_txns promises)))
-candidates-distinct promises p coherent =
-    stamps-distinct (all_of promises) (filter p (reported_txns promises)) coherent (λ t a. Among-ordered t (all_of promises) (Among-filter t p (reported_txns promises) a))
-    (AreInOrder-filter p (reported_txns promises) (AreInOrder-ordered (all_of promises)))
 
 -- ---- coherence
 
@@ -137,7 +126,7 @@ Among-take x (suc n) [] a = a
 Among-take x (suc n) (y ∷ xs) (inl e) = inl e
 Among-take x (suc n) (y ∷ xs) (inr a) = inr (Among-take x n xs a)
 
-chosen-within : (f epoch : ℕ) (all : List PromiseState) (p : PromiseState) → Among p (counting (chosen f epoch all)) → Among p all
+pub chosen-within : (f epoch : ℕ) (all : List PromiseState) (p : PromiseState) → Among p (counting (chosen f epoch all)) → Among p all
 chosen-within f epoch all p a =
     let q = highest_adopted (chosen f epoch all) in
     elim (Among-append p (take 1 (filter (is_leaders f epoch) all)) (take f (filter (λ x. not (is_leaders f epoch x)) all)) (Among-filter p (λ x. x.adopted == q) (chosen f epoch all) a)) [
@@ -169,23 +158,3 @@ counting-coherent f epoch all h =
       | inl b ↦ base-within some all txn (chosen-within f epoch all) b
       | inr b ↦ entries-within some all txn (chosen-within f epoch all) b
     ]) h
-
--- ---- the whole
-
--- the base, put together from what was found
-pub merged-is : (f epoch : ℕ) (ps : List PromiseState) (txns before waiting ordered commits : List Transaction) (list : List Fated) (marks : MarkMap)
-    → txns ≡ reported_txns ps
-    → before ≡ filter (λ txn. passes is_commit (settled_fate f ps txn.id)) txns
-    → waiting ≡ filter (λ txn. is_none (settled_fate f ps txn.id) && nat_le (hint_of f) (ok_reports f ps txn.id)) txns
-    → ordered ≡ in_stamp_order waiting
-    → commits ≡ taken before ordered
-    → list ≡ map (λ txn. fated txn (fate_by epoch txn commits (settled_fate f ps txn.id))) txns
-    → marks ≡ merged_marks ps
-    → record { list = list; marks = marks } ≡ merged_from f epoch ps
-merged-is f epoch ps txns before waiting ordered commits list marks txns_is before_is waiting_is ordered_is commits_is list_is marks_is =
-    let settled : before ≡ settled_commits f ps = before_is ∙ ap (filter (λ txn. passes is_commit (settled_fate f ps txn.id))) txns_is in
-    let in_turn : ordered ≡ candidates f ps = ordered_is ∙ ap in_stamp_order (waiting_is ∙ ap (filter (λ txn. is_none (settled_fate f ps txn.id) && nat_le (hint_of f) (ok_reports f ps txn.id))) txns_is) in
-    let all : commits ≡ taken (settled_commits f ps) (candidates f ps) = commits_is ∙ (λ i. taken (settled i) (in_turn i)) in
-    let fates : list ≡ fates_by f epoch ps (taken (settled_commits f ps) (candidates f ps)) =
-    list_is ∙ (λ i. map (λ txn. fated txn (fate_by epoch txn (all i) (settled_fate f ps txn.id))) (txns_is i)) in
-    λ i. record { list = fates i; marks = marks_is i }

@@ -11,17 +11,13 @@ use Rattle.mk_txn.proofs.MarkLaws.{IsMarkMap-joined, mark_of-joined, MarkMap-fro
 use Rattle.mk_trim.specs.KeptOutcomes.{KeptOutcomes, Outcomes, put_outcome, with_outcome, not_covered, covered_by, nothing_kept}
 use Rattle.mk_merge.specs.declared.Fated.{Fated}
 use Rattle.mk_merge.specs.Bases.{IsInIdOrder, fates_in, kept_of}
+use Rattle.mk_merge.specs.Adding.{put_fates}
 use Rattle.mk_merge.proofs.ListLaws.{drop-at}
 
 -- marks that join none are the marks
 pub joined_marks-none : (marks : MarkMap) → IsMarkMap marks → joined_marks [] marks ≡ marks
 joined_marks-none marks h =
     MarkMap-from_marks (joined_marks [] marks) marks (IsMarkMap-joined [] marks tt) h (λ client. grind (arith, nat_tests, mark_of-joined [] marks client tt h))
-
--- the outcomes of these put one after another
-abbrev pub put_all : List Fated → KeptOutcomes → KeptOutcomes
-put_all [] kept = kept
-put_all (f ∷ list) kept = put_all list (with_outcome f.txn.id f.outcome kept)
 
 -- an outcome whose attempt is after all others stands at the end
 put_outcome-last : (id : TxnId) (outcome : Outcome) (outcomes : Outcomes) → Each (λ first. id_before first.0 id ≡ true) outcomes → put_outcome id outcome outcomes ≡ outcomes ++ (id, outcome) ∷ []
@@ -32,11 +28,11 @@ put_outcome-last id outcome (first ∷ rest) h = grind (arith, put_outcome-last 
 abbrev AreAfter : List Fated → Outcomes → Type 0
 AreAfter list outcomes = Each (λ (f : Fated). Each (λ first. id_before first.0 f.txn.id ≡ true) outcomes) list
 
-put_all-kept : (marks : MarkMap) (list : List Fated) (outcomes : Outcomes) → IsInIdOrder list → AreAfter list outcomes
-    → put_all list (record { outcomes = outcomes; marks = marks }) ≡ record { outcomes = outcomes ++ not_covered marks (fates_in list); marks = marks }
-put_all-kept marks [] outcomes order after = λ i. record { outcomes = sym (append-nil outcomes) i; marks = marks }
-put_all-kept marks (f ∷ list) outcomes order after =
-    by_cover (covers marks f.txn.id) (put_all-kept marks list outcomes order.1 after.1) (put_all-kept marks list (outcomes ++ (f.txn.id, f.outcome) ∷ []) order.1 later)
+put_fates-kept : (marks : MarkMap) (list : List Fated) (outcomes : Outcomes) → IsInIdOrder list → AreAfter list outcomes
+    → put_fates list (record { outcomes = outcomes; marks = marks }) ≡ record { outcomes = outcomes ++ not_covered marks (fates_in list); marks = marks }
+put_fates-kept marks [] outcomes order after = λ i. record { outcomes = sym (append-nil outcomes) i; marks = marks }
+put_fates-kept marks (f ∷ list) outcomes order after =
+    by_cover (covers marks f.txn.id) (put_fates-kept marks list outcomes order.1 after.1) (put_fates-kept marks list (outcomes ++ (f.txn.id, f.outcome) ∷ []) order.1 later)
   where
     later : AreAfter list (outcomes ++ (f.txn.id, f.outcome) ∷ [])
     later = both list order.0 after.1
@@ -46,19 +42,19 @@ put_all-kept marks (f ∷ list) outcomes order after =
         both (g ∷ rest) h k = (Each-append (λ first. id_before first.0 g.txn.id ≡ true) outcomes ((f.txn.id, f.outcome) ∷ []) k.0 (h.0, tt), both rest h.1 k.1)
 
     by_cover : (b : Bool)
-        → put_all list (record { outcomes = outcomes; marks = marks }) ≡ record { outcomes = outcomes ++ not_covered marks (fates_in list); marks = marks }
-        → put_all list (record { outcomes = outcomes ++ (f.txn.id, f.outcome) ∷ []; marks = marks }) ≡ record { outcomes = (outcomes ++ (f.txn.id, f.outcome) ∷ []) ++ not_covered marks (fates_in list); marks = marks }
-        → put_all list (record { outcomes = if b then outcomes else put_outcome f.txn.id f.outcome outcomes; marks = marks })
+        → put_fates list (record { outcomes = outcomes; marks = marks }) ≡ record { outcomes = outcomes ++ not_covered marks (fates_in list); marks = marks }
+        → put_fates list (record { outcomes = outcomes ++ (f.txn.id, f.outcome) ∷ []; marks = marks }) ≡ record { outcomes = (outcomes ++ (f.txn.id, f.outcome) ∷ []) ++ not_covered marks (fates_in list); marks = marks }
+        → put_fates list (record { outcomes = if b then outcomes else put_outcome f.txn.id f.outcome outcomes; marks = marks })
         ≡ record { outcomes = outcomes ++ (if not b then (f.txn.id, f.outcome) ∷ not_covered marks (fates_in list) else not_covered marks (fates_in list)); marks = marks }
     by_cover true same put = same
     by_cover false same put =
-        ap (λ os. put_all list (record { outcomes = os; marks = marks })) (put_outcome-last f.txn.id f.outcome outcomes after.0)
+        ap (λ os. put_fates list (record { outcomes = os; marks = marks })) (put_outcome-last f.txn.id f.outcome outcomes after.0)
         ∙ put
         ∙ ap (λ os. record { outcomes = os; marks = marks }) (append_assoc outcomes ((f.txn.id, f.outcome) ∷ []) (not_covered marks (fates_in list)))
 
 -- with those that are left it comes to what is kept of the base
 abbrev pub ComesToKept : List Fated → MarkMap → List Fated → KeptOutcomes → Type 0
-ComesToKept list marks left kept = put_all left kept ≡ kept_of (record { list = list; marks = marks })
+ComesToKept list marks left kept = put_fates left kept ≡ kept_of (record { list = list; marks = marks })
 
 after_none : (list : List Fated) → AreAfter list []
 after_none [] = tt
@@ -66,12 +62,12 @@ after_none (f ∷ list) = (tt, after_none list)
 
 pub kept-begins : (list : List Fated) (marks : MarkMap) (kept : KeptOutcomes) → IsInIdOrder list → IsMarkMap marks → kept ≡ covered_by marks nothing_kept → ComesToKept list marks (drop 0 list) kept
 kept-begins list marks kept order h is =
-    ap (put_all list) (is ∙ (λ i. record { outcomes = []; marks = joined_marks-none marks h i })) ∙ put_all-kept marks list [] order (after_none list)
+    ap (put_fates list) (is ∙ (λ i. record { outcomes = []; marks = joined_marks-none marks h i })) ∙ put_fates-kept marks list [] order (after_none list)
 
 pub kept-next : (list : List Fated) (marks : MarkMap) (i : ℕ) (f : Fated) (old new : KeptOutcomes) → i < length list → f ≡ get_or list i f → new ≡ with_outcome f.txn.id f.outcome old
     → ComesToKept list marks (drop i list) old → ComesToKept list marks (drop (i + 1) list) new
 kept-next list marks i f old new within is put e =
-    ap (put_all (drop (i + 1) list)) put ∙ subst (λ left. put_all left old ≡ kept_of (record { list = list; marks = marks })) (drop-at list i f within is) e
+    ap (put_fates (drop (i + 1) list)) put ∙ subst (λ left. put_fates left old ≡ kept_of (record { list = list; marks = marks })) (drop-at list i f within is) e
 
 pub kept-ends : (list : List Fated) (marks : MarkMap) (i : ℕ) (kept : KeptOutcomes) → length list ≤ i → ComesToKept list marks (drop i list) kept → kept ≡ kept_of (record { list = list; marks = marks })
 kept-ends list marks i kept past e = subst (λ left. ComesToKept list marks left kept) (drop_all i list past) e

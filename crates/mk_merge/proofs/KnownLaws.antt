@@ -10,7 +10,7 @@ use Rattle.mk_trim.specs.KeptOutcomes.{Outcomes, known_of, known_outcome, not_co
 use Rattle.mk_merge.specs.declared.Fated.{Fated}
 use Rattle.mk_merge.specs.Bases.{BaseState, known, kept_of, taught_by, fate_in, fates_in}
 
-fate_in-fates_in : (id : TxnId) (list : List Fated) → outcome_of id (fates_in list) ≡ fate_in id list
+pub fate_in-fates_in : (id : TxnId) (list : List Fated) → outcome_of id (fates_in list) ≡ fate_in id list
 fate_in-fates_in id [] = refl
 fate_in-fates_in id (f ∷ list) = grind (arith, fate_in-fates_in id list)
 
@@ -22,7 +22,7 @@ apart marks a id n c = head (same_id a id) refl
     head false e = e
     head true e = absurd (cc (sym n ∙ (ap (covers marks) (sym (same_id-tells a id e)) ∙ c)))
 
-outcome_of-not_covered : (marks : MarkMap) (outcomes : Outcomes) (id : TxnId) → covers marks id ≡ false →
+pub outcome_of-not_covered : (marks : MarkMap) (outcomes : Outcomes) (id : TxnId) → covers marks id ≡ false →
     outcome_of id (not_covered marks outcomes) ≡ outcome_of id outcomes
 outcome_of-not_covered marks [] id n = refl
 outcome_of-not_covered marks (fate ∷ outcomes) id n = grind (arith, outcome_of-not_covered marks outcomes id n, apart marks fate.0 id n)

@@ -32,7 +32,7 @@ later_stamp-least a b c h k = by_order (is_before a b)
     by_order false = h
 
 -- the latest of three, in whatever order two of them come
-later_stamp-swap : (a b c : Stamp) → later_stamp a (later_stamp b c) ≡ later_stamp (later_stamp a c) b
+pub later_stamp-swap : (a b c : Stamp) → later_stamp a (later_stamp b c) ≡ later_stamp (later_stamp a c) b
 later_stamp-swap a b c =
     let bc = later_stamp b c in
     let ac = later_stamp a c in
@@ -49,7 +49,7 @@ later_stamp-swap a b c =
     (later_stamp-least b c r (later_stamp-right ac b) (not_before-through r ac c r_ac (later_stamp-right a c))))
 
 -- the reads of one stamp count once
-after_reads-any : (key : ℕ) (stamp rts : Stamp) (items : List ReadItem) →
+pub after_reads-any : (key : ℕ) (stamp rts : Stamp) (items : List ReadItem) →
     after_reads key stamp rts items ≡ (if list_any (λ item. item.key == key) items then later_stamp rts stamp else rts)
 after_reads-any key stamp rts [] = refl
 after_reads-any key stamp rts (item ∷ items) =

@@ -11,5 +11,11 @@ pub mod OrderLaws
 pub mod FateLaws
 pub mod StampLaws
 pub mod BaseLaws
+pub mod JoiningLaws
+pub mod Members
+pub mod Fitting
+pub mod AddingLaws
 pub mod StandLaws
+pub mod MergedLaws
+pub mod BaseWith
 pub mod Examples

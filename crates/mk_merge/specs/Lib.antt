@@ -5,3 +5,5 @@ pub mod Lefts
 pub mod Promises
 pub mod Merging
 pub mod Keepings
+pub mod Adding
+pub mod Handing

@@ -7,7 +7,7 @@ ghost use Rattle.mk_merge.specs.Promises.{PromiseState, ArePromises, can_merge};
 ghost use Rattle.mk_merge.specs.Merging.{merged};
 ghost use Rattle.mk_merge.specs.Keepings.{Stand, counted};
 
-use crate::merging::merge_listed;
+use crate::joining::merge_listed;
 use crate::{Base, MergeError, Promise};
 use mk_cell::Cell;
 use mk_quorum::Size;

@@ -3,6 +3,7 @@
 
 mod choosing;
 mod handing;
+mod joining;
 mod keeping;
 mod listing;
 mod merging;
@@ -12,10 +13,13 @@ mod reporting;
 #[cfg(test)]
 mod tests;
 
+pub use choosing::counted;
 pub use keeping::Keeping;
+pub use merging::added;
 use mk_record::Entry;
 use mk_trim::Kept;
 use mk_txn::{Marks, NoMemory, Outcome, Txn};
+pub use rebuilding::Left;
 use std::marker::Model;
 
 /// A transaction with its outcome in a base.
@@ -42,6 +46,13 @@ impl Model for Base {
     ghost view = { λ base. record { list = base.list.items; marks = base.kept.marks } };
 
     ghost invariant = { λ base. IsBase (record { list = base.list.items; marks = base.kept.marks }) × (base.kept ≡ kept_of (record { list = base.list.items; marks = base.kept.marks })) };
+}
+
+/// What a merge adds to a base: attempts with their outcomes, in order of their numbers, and the marks that then hold.
+#[derive(Drop, Debug)]
+pub struct Addition {
+    pub list: Vec<Fated>,
+    pub marks: Marks,
 }
 
 /// The entries of all columns at one replica.

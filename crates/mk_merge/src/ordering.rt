@@ -1,48 +1,50 @@
-//! The transactions that the promises that count report, in order of their numbers and in order of their stamps.
-ghost use Rattle.std.specs.Prelude.{◌≡◌, ◌++◌, map, flat_map, IfOk, OnOk};
+//! The transactions that entries report, in order of their numbers and in order of their stamps.
+ghost use Rattle.std.specs.Prelude.{◌≡◌, ◌++◌, map, filter, IfOk, OnOk};
 ghost use Rattle.mk_txn.specs.Transactions.{AreCoherent};
 ghost use Rattle.mk_lists.specs.Among.{AllDistinct};
 ghost use Rattle.mk_merge.specs.Bases.{in_id_order, in_stamp_order as is_in_stamp_order};
-ghost use Rattle.mk_merge.specs.Merging.{reported_txns as are_reported};
-ghost use Rattle.mk_merge.specs.Promises.{base_of};
-ghost use Rattle.mk_merge.specs.Keepings.{listed};
+ghost use Rattle.mk_merge.specs.Adding.{is_new as is_new_to, entered_txns, new_txns as are_new};
 
-use crate::{Base, Fated, Promise};
+use crate::handing::Handed;
 use mk_record::Entry;
-use mk_txn::{NoMemory, Stamp, Txn, TxnId};
+use mk_trim::Kept;
+use mk_txn::{Known, NoMemory, Stamp, Txn, TxnId};
 use std::alloc::Global;
 use std::collections::BTreeMap;
 
-// The transactions of a base besides.
-fn add_fated<'a>(txns: &mut Vec<&'a Txn>, list: &'a [Fated]) -> Result<(), NoMemory>
-    ensures { OnOk result (map (λ t. t.now) txns.new.items ≡ map (λ t. t.now) txns.old.items ++ map (λ f. f.txn) list.now) }
+// Whether nothing is kept of the attempt, and it is not forgotten.
+fn is_new(kept: &Kept, id: TxnId) -> bool
+    ensures { result ≡ is_new_to kept.now id }
 {
-    for fated in list {
-        txns.push(&fated.txn)?;
+    match kept.fate(id) {
+        Known::Absent => true,
+        _ => false,
     }
-    Ok(())
 }
 
-// The transactions of entries besides.
-fn add_entries<'a>(txns: &mut Vec<&'a Txn>, entries: &'a [Entry]) -> Result<(), NoMemory>
-    ensures { OnOk result (map (λ t. t.now) txns.new.items ≡ map (λ t. t.now) txns.old.items ++ map (λ e. e.txn) entries.now) }
+// The transactions of new attempts among entries besides.
+fn add_new<'a>(txns: &mut Vec<&'a Txn>, kept: &Kept, entries: &'a [Entry]) -> Result<(), NoMemory>
+    ensures { OnOk result (map (λ t. t.now) txns.new.items ≡ map (λ t. t.now) txns.old.items ++ filter (λ txn. is_new_to kept.now txn.id) (map (λ e. e.txn) entries.now)) }
 {
     for entry in entries {
-        txns.push(&entry.txn)?;
+        if is_new(kept, entry.txn.id()) {
+            txns.push(&entry.txn)?;
+        }
     }
     Ok(())
 }
 
-// The transactions of the base and of all entries, some of them repeatedly.
-fn all_txns<'a>(alloc: Global, promises: &[&'a Promise<Base>]) -> Result<Vec<&'a Txn>, NoMemory>
-    ensures { IfOk result (λ txns. map (λ t. t.now) txns.items ≡ map (λ f. f.txn) (base_of (map (λ p. listed p.now) promises.now)).list ++ flat_map (λ p. map (λ e. e.txn) p.entries) (map (λ p. listed p.now) promises.now)) }
+// The transactions of new attempts of all entries, some of them repeatedly.
+fn all_new<'a>(
+    alloc: Global,
+    kept: &Kept,
+    promises: &[Handed<'a>],
+) -> Result<Vec<&'a Txn>, NoMemory>
+    ensures { IfOk result (λ txns. map (λ t. t.now) txns.items ≡ filter (λ txn. is_new_to kept.now txn.id) (entered_txns promises.now)) }
 {
     let mut txns = Vec::new(alloc);
-    if let Some(first) = promises.first() {
-        add_fated(&mut txns, first.base.list())?;
-    }
     for promise in promises {
-        add_entries(&mut txns, promise.entries.list())?;
+        add_new(&mut txns, kept, promise.entries())?;
     }
     Ok(txns)
 }
@@ -76,15 +78,16 @@ fn listed_by_id<'a>(
     Ok(txns)
 }
 
-// Every transaction of the promises that count, in order of number.
-pub(crate) fn reported_txns<'a>(
+// The transactions of new attempts, in order of number.
+pub(crate) fn new_txns<'a>(
     alloc: Global,
-    promises: &[&'a Promise<Base>],
+    kept: &Kept,
+    promises: &[Handed<'a>],
 ) -> Result<Vec<&'a Txn>, NoMemory>
-    requires { AreCoherent (map (λ f. f.txn) (base_of (map (λ p. listed p.now) promises.now)).list ++ flat_map (λ p. map (λ e. e.txn) p.entries) (map (λ p. listed p.now) promises.now)) }
-    ensures { IfOk result (λ txns. map (λ t. t.now) txns.items ≡ are_reported (map (λ p. listed p.now) promises.now)) }
+    requires { AreCoherent (entered_txns promises.now) }
+    ensures { IfOk result (λ txns. map (λ t. t.now) txns.items ≡ are_new kept.now promises.now) }
 {
-    let all = all_txns(alloc, promises)?;
+    let all = all_new(alloc, kept, promises)?;
     let table = by_id(alloc, all.as_slice())?;
     listed_by_id(alloc, &table)
 }

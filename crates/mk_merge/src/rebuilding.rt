@@ -13,9 +13,9 @@ use mk_txn::{NoMemory, Outcome, Stamp, Txn, Value, later, precedes};
 use std::alloc::Global;
 use std::marker::Model;
 
-// The latest write of a key, and the greatest stamp of a read.
-#[derive(Drop)]
-struct Left {
+/// What commits leave at a key: its latest write, and the greatest stamp of a read.
+#[derive(Clone, Copy, Debug)]
+pub struct Left {
     value: Value,
     wts: Stamp,
     rts: Stamp,
@@ -27,12 +27,15 @@ impl Model for Left {
     ghost Value = { LeftState };
 
     ghost view = { λ left. record { latest = record { version = left.wts; value = left.value }; rts = left.rts } };
+
+    ghost inverse = { λ left. record { value = left.latest.value; wts = left.latest.version; rts = left.rts } };
 }
 
 impl Left {
     ghost use Rattle.mk_merge.specs.Lefts.{nothing_left, with_write, with_read, after_commit, cell_left};
 
-    fn nothing() -> Left
+    /// What no commit leaves: the number 0 at stamp 0.0, and no read.
+    pub fn nothing() -> Left
         ensures { result ≡ nothing_left }
     {
         let start = Stamp { time: 0, client: 0 };
@@ -43,7 +46,22 @@ impl Left {
         }
     }
 
-    fn write(&mut self, stamp: Stamp, value: Value)
+    /// The stamp of the latest write.
+    pub fn wts(&self) -> Stamp
+        ensures { result ≡ self.now.latest.version }
+    {
+        self.wts
+    }
+
+    /// The greatest stamp of a read.
+    pub fn rts(&self) -> Stamp
+        ensures { result ≡ self.now.rts }
+    {
+        self.rts
+    }
+
+    /// A write of this stamp stands from then on, unless a later one does.
+    pub fn write(&mut self, stamp: Stamp, value: Value)
         ensures { self.new ≡ with_write stamp value self.old }
     {
         if !precedes(stamp, self.wts) {
@@ -52,7 +70,8 @@ impl Left {
         }
     }
 
-    fn read(&mut self, stamp: Stamp)
+    /// A read of this stamp counts from then on.
+    pub fn read(&mut self, stamp: Stamp)
         ensures { self.new ≡ with_read stamp self.old }
     {
         self.rts = later(self.rts, stamp);
@@ -88,7 +107,8 @@ impl Left {
         }
     }
 
-    fn cell(&self, alloc: Global) -> Cell
+    /// The cell of such a key, with nothing pending.
+    pub fn cell(&self, alloc: Global) -> Cell
         ensures { result.state ≡ cell_left self.now }
     {
         Cell::of(alloc, self.value, self.wts, self.rts)

@@ -1,69 +1,54 @@
 //! What the promises that count report of an attempt.
-ghost use Rattle.std.specs.Prelude.{◌≡◌, ◌==◌, map, find, option_map, option_and_then, option_copied};
+ghost use Rattle.std.specs.Prelude.{◌≡◌, ◌==◌, find, option_and_then, option_copied};
 ghost use Rattle.mk_txn.specs.Outcomes.{is_ok_vote, higher as are_higher};
 ghost use Rattle.mk_quorum.specs.Slots.{passes};
-ghost use Rattle.mk_record.specs.Entries.{entry_of};
-ghost use Rattle.mk_merge.specs.Bases.{fate_in};
-ghost use Rattle.mk_merge.specs.Promises.{base_of};
-ghost use Rattle.mk_merge.specs.Merging.{reported as is_reported, reports, first_last as is_first_last, highest_accepted as is_highest_accepted, ok_reports as count_of_oks, settled_fate as is_settled_fate};
-ghost use Rattle.mk_merge.specs.Keepings.{listed};
+ghost use Rattle.mk_merge.specs.Merging.{reported as is_reported, reports, first_last as is_first_last, highest_accepted as is_highest_accepted, ok_reports as count_of_oks};
+ghost use Rattle.mk_merge.specs.Adding.{entered_fate as is_entered_fate};
 
-use crate::{Base, Promise};
+use crate::handing::Handed;
 use mk_quorum::Size;
 use mk_record::Entry;
-use mk_txn::{Accepted, Outcome, TxnId, Vote, same_id};
+use mk_txn::{Accepted, Outcome, TxnId, Vote};
 
-// The promise of the replica of this number.
-fn promise_of<'a>(promises: &[&'a Promise<Base>], r: u32) -> Option<&'a Promise<Base>>
-    ensures { option_map (λ p. listed p.now) result ≡ find (λ p. p.replica == r) (map (λ p. listed p.now) promises.now) }
+// What the replica of this number hands in.
+fn promise_of<'a, 'b>(promises: &'b [Handed<'a>], r: u32) -> Option<&'b Handed<'a>>
+    ensures { option_copied result ≡ find (λ p. p.replica == r) promises.now }
 {
     for promise in promises {
-        if promise.replica == r {
-            return Some(*promise);
-        }
-    }
-    None
-}
-
-// The entry of the attempt.
-fn entry_in(entries: &[Entry], id: TxnId) -> Option<&Entry>
-    ensures { option_copied result ≡ entry_of id entries.now }
-{
-    for entry in entries {
-        if same_id(entry.txn.id(), id) {
-            return Some(entry);
+        if promise.replica() == r {
+            return Some(promise);
         }
     }
     None
 }
 
 // What the replica of this number reported of the attempt.
-fn reported<'a>(promises: &[&'a Promise<Base>], id: TxnId, r: u32) -> Option<&'a Entry>
-    ensures { option_copied result ≡ is_reported (map (λ p. listed p.now) promises.now) id r }
+fn reported<'a>(promises: &[Handed<'a>], id: TxnId, r: u32) -> Option<&'a Entry>
+    ensures { option_copied result ≡ is_reported promises.now id r }
 {
     match promise_of(promises, r) {
-        Some(promise) => entry_in(promise.entries.list(), id),
+        Some(promise) => promise.entry(id),
         None => None,
     }
 }
 
 // The final outcome that the replica reported.
-fn last_at(promises: &[&Promise<Base>], id: TxnId, r: u32) -> Option<Outcome>
-    ensures { result ≡ option_and_then (λ e. e.last) (is_reported (map (λ p. listed p.now) promises.now) id r) }
+fn last_at(promises: &[Handed], id: TxnId, r: u32) -> Option<Outcome>
+    ensures { result ≡ option_and_then (λ e. e.last) (is_reported promises.now id r) }
 {
     reported(promises, id, r)?.last
 }
 
 // The outcome that the replica accepted, with its view.
-fn accepted_at(promises: &[&Promise<Base>], id: TxnId, r: u32) -> Option<Accepted>
-    ensures { result ≡ option_and_then (λ e. e.accepted) (is_reported (map (λ p. listed p.now) promises.now) id r) }
+fn accepted_at(promises: &[Handed], id: TxnId, r: u32) -> Option<Accepted>
+    ensures { result ≡ option_and_then (λ e. e.accepted) (is_reported promises.now id r) }
 {
     reported(promises, id, r)?.accepted
 }
 
 // Whether the replica reported an Ok vote.
-fn is_ok_at(promises: &[&Promise<Base>], id: TxnId, r: u32) -> bool
-    ensures { result ≡ passes (λ e. passes is_ok_vote e.vote) (is_reported (map (λ p. listed p.now) promises.now) id r) }
+fn is_ok_at(promises: &[Handed], id: TxnId, r: u32) -> bool
+    ensures { result ≡ passes (λ e. passes is_ok_vote e.vote) (is_reported promises.now id r) }
 {
     match reported(promises, id, r) {
         Some(entry) => entry.vote == Some(Vote::Ok),
@@ -72,8 +57,8 @@ fn is_ok_at(promises: &[&Promise<Base>], id: TxnId, r: u32) -> bool
 }
 
 // The final outcome that the lowest-numbered replica reported.
-fn first_last(promises: &[&Promise<Base>], size: Size, id: TxnId) -> Option<Outcome>
-    ensures { result ≡ is_first_last (reports size (map (λ p. listed p.now) promises.now) id) }
+fn first_last(promises: &[Handed], size: Size, id: TxnId) -> Option<Outcome>
+    ensures { result ≡ is_first_last (reports size promises.now id) }
 {
     for r in 0..size.n() {
         if let Some(outcome) = last_at(promises, id, r) {
@@ -95,8 +80,8 @@ fn higher(a: Option<Accepted>, b: Option<Accepted>) -> Option<Accepted>
 }
 
 // The outcome that was accepted in the highest view.
-fn highest_accepted(promises: &[&Promise<Base>], size: Size, id: TxnId) -> Option<Outcome>
-    ensures { result ≡ is_highest_accepted (reports size (map (λ p. listed p.now) promises.now) id) }
+fn highest_accepted(promises: &[Handed], size: Size, id: TxnId) -> Option<Outcome>
+    ensures { result ≡ is_highest_accepted (reports size promises.now id) }
 {
     let mut best = None;
     for r in 0..size.n() {
@@ -106,8 +91,8 @@ fn highest_accepted(promises: &[&Promise<Base>], size: Size, id: TxnId) -> Optio
 }
 
 // How many replicas reported an Ok vote.
-pub(crate) fn ok_reports(promises: &[&Promise<Base>], size: Size, id: TxnId) -> u32
-    ensures { result ≡ count_of_oks size (map (λ p. listed p.now) promises.now) id }
+pub(crate) fn ok_reports(promises: &[Handed], size: Size, id: TxnId) -> u32
+    ensures { result ≡ count_of_oks size promises.now id }
 {
     let mut count = 0;
     for r in 0..size.n() {
@@ -118,18 +103,9 @@ pub(crate) fn ok_reports(promises: &[&Promise<Base>], size: Size, id: TxnId) -> 
     count
 }
 
-// The outcome that the base has of the attempt.
-fn fate_before(promises: &[&Promise<Base>], id: TxnId) -> Option<Outcome>
-    ensures { result ≡ fate_in id (base_of (map (λ p. listed p.now) promises.now)).list }
+// A final outcome, else the outcome that was accepted in the highest view.
+pub(crate) fn entered_fate(promises: &[Handed], size: Size, id: TxnId) -> Option<Outcome>
+    ensures { result ≡ is_entered_fate size promises.now id }
 {
-    promises.first()?.base.fate(id)
-}
-
-// The outcome by the first three rules: the base's, else a final one, else the one accepted in the highest view.
-pub(crate) fn settled_fate(promises: &[&Promise<Base>], size: Size, id: TxnId) -> Option<Outcome>
-    ensures { result ≡ is_settled_fate size (map (λ p. listed p.now) promises.now) id }
-{
-    fate_before(promises, id)
-        .or(first_last(promises, size, id))
-        .or(highest_accepted(promises, size, id))
+    first_last(promises, size, id).or(highest_accepted(promises, size, id))
 }

@@ -1,9 +1,0 @@
-use Rattle.mk_txn.specs.Outcomes.{is_commit}
-use Rattle.mk_quorum.specs.Slots.{passes}
-use Rattle.mk_merge.specs.Merging.{settled_fate}
-use Rattle.mk_merge.proofs.ChoosingLaws.{states_of}
-use Rattle.mk_merge.proofs.FateLaws.{ComesToFiltered}
-use Rattle.mk_merge.proofs.merging.settled_commits.Given as goal
-
-abbrev pub invariant-loop-txn : goal.invariant-loop-txn
-invariant-loop-txn l = ComesToFiltered (λ txn. passes is_commit (settled_fate l.size (states_of l.promises) txn.id)) l.txns l.txn-index l.found.items

@@ -1,0 +1,97 @@
+-- The promises of the worked cases meet the conditions of a merge.
+use Rattle.std.proofs.Common.{◌≡◌, ◌⊎◌, false, refl, sym, ap, ◌∙◌, inl, inr, List, [], ◌∷◌, arith}
+use Rattle.std.specs.Prelude.{flat_map}
+use Rattle.mk_lists.specs.Among.{Among, Each, Each-among}
+use Rattle.mk_txn.specs.declared.Stamp.{Stamp}
+use Rattle.mk_txn.specs.declared.TxnId.{TxnId}
+use Rattle.mk_txn.specs.MarkMaps.{covers}
+use Rattle.mk_txn.specs.Transactions.{Transaction, AreCoherent}
+use Rattle.mk_record.specs.declared.Entry.{Entry}
+use Rattle.mk_merge.specs.Bases.{empty_base}
+use Rattle.mk_merge.specs.Merging.{merged}
+use Rattle.mk_merge.specs.Promises.{PromiseState, ArePromises, EntryFits, promised_txns}
+use Rattle.mk_merge.proofs.Examples.{fits-empty}
+use Rattle.mk_snap.specs.Rows.{reader, writer, conflicting, early, late, second, finished, covered, adopted_by_two}
+
+-- transactions that are each one of two
+two-coherent : (a b : Transaction) (all : List Transaction) → (a.id ≡ b.id → ⊥) → (a.stamp ≡ b.stamp → ⊥) → Each (λ t. (t ≡ a) ⊎ (t ≡ b)) all → AreCoherent all
+two-coherent a b all ids stamps h = record {
+  one_of_a_number = λ x y p q e. number x y (Each-among (λ t. (t ≡ a) ⊎ (t ≡ b)) x all h p) (Each-among (λ t. (t ≡ a) ⊎ (t ≡ b)) y all h q) e;
+  one_of_a_stamp = λ x y p q e. stamp x y (Each-among (λ t. (t ≡ a) ⊎ (t ≡ b)) x all h p) (Each-among (λ t. (t ≡ a) ⊎ (t ≡ b)) y all h q) e;
+}
+  where
+    number : (x y : Transaction) → (x ≡ a) ⊎ (x ≡ b) → (y ≡ a) ⊎ (y ≡ b) → x.id ≡ y.id → x ≡ y
+    number x y (inl p) (inl q) e = p ∙ sym q
+    number x y (inr p) (inr q) e = p ∙ sym q
+    number x y (inl p) (inr q) e = absurd (ids (sym (ap (λ (t : Transaction). t.id) p) ∙ e ∙ ap (λ (t : Transaction). t.id) q))
+    number x y (inr p) (inl q) e = absurd (ids (sym (ap (λ (t : Transaction). t.id) q) ∙ sym e ∙ ap (λ (t : Transaction). t.id) p))
+
+    stamp : (x y : Transaction) → (x ≡ a) ⊎ (x ≡ b) → (y ≡ a) ⊎ (y ≡ b) → x.stamp ≡ y.stamp → x.id ≡ y.id
+    stamp x y (inl p) (inl q) e = ap (λ (t : Transaction). t.id) (p ∙ sym q)
+    stamp x y (inr p) (inr q) e = ap (λ (t : Transaction). t.id) (p ∙ sym q)
+    stamp x y (inl p) (inr q) e = absurd (stamps (sym (ap (λ (t : Transaction). t.stamp) p) ∙ e ∙ ap (λ (t : Transaction). t.stamp) q))
+    stamp x y (inr p) (inl q) e = absurd (stamps (sym (ap (λ (t : Transaction). t.stamp) q) ∙ sym e ∙ ap (λ (t : Transaction). t.stamp) p))
+
+-- what is not covered fits the base of epoch 0
+fits : (entry : Entry) → covers [] entry.txn.id ≡ false → EntryFits empty_base entry
+fits entry uncovered = record { voted = λ e. fits-empty entry.txn; uncovered = uncovered }
+
+one-base : (ps : List PromiseState) → Each (λ (s : PromiseState). s.base ≡ empty_base) ps → (p q : PromiseState) → Among p ps → Among q ps → p.adopted ≡ q.adopted → p.base ≡ q.base
+one-base ps h p q a b e = Each-among (λ (s : PromiseState). s.base ≡ empty_base) p ps h a ∙ sym (Each-among (λ (s : PromiseState). s.base ≡ empty_base) q ps h b)
+
+pub conflicting-asked : ArePromises conflicting
+conflicting-asked = record {
+  distinct_replicas = ((λ a. elim a [ inl e ↦ absurd (omega (arith, e)) | inr b ↦ elim b [ inl e ↦ absurd (omega (arith, e)) | inr n ↦ n ] ]), ((λ a. elim a [ inl e ↦ absurd (omega (arith, e)) | inr n ↦ n ]), ((λ a. a), tt)));
+  distinct_ids = (((λ a. a), tt), (((λ a. a), tt), (((λ a. a), tt), tt)));
+  one_base = one-base conflicting (refl, (refl, (refl, tt)));
+  coherent = two-coherent reader writer (flat_map promised_txns conflicting)
+      (λ e. let k : reader.id.client ≡ writer.id.client = ap (λ (i : TxnId). i.client) e in omega (arith, k))
+      (λ e. let k : reader.stamp.time ≡ writer.stamp.time = ap (λ (s : Stamp). s.time) e in omega (arith, k))
+      (inl refl, (inl refl, (inr refl, tt)));
+  entries_fit = ((fits _ refl, tt), ((fits _ refl, tt), ((fits _ refl, tt), tt)));
+}
+
+pub finished-asked : ArePromises finished
+finished-asked = record {
+  distinct_replicas = ((λ a. elim a [ inl e ↦ absurd (omega (arith, e)) | inr n ↦ n ]), ((λ a. a), tt));
+  distinct_ids = (((λ a. elim a [ inl e ↦ absurd (client e) | inr n ↦ n ]), ((λ a. a), tt)), (tt, tt));
+  one_base = one-base finished (refl, (refl, tt));
+  coherent = two-coherent early late (flat_map promised_txns finished)
+      (λ e. let k : early.id.client ≡ late.id.client = ap (λ (i : TxnId). i.client) e in omega (arith, k))
+      (λ e. let k : early.stamp.time ≡ late.stamp.time = ap (λ (s : Stamp). s.time) e in omega (arith, k))
+      (inl refl, (inr refl, tt));
+  entries_fit = ((fits _ refl, (fits _ refl, tt)), (tt, tt));
+}
+  where
+    client : late.id ≡ early.id → ⊥
+    client e = let k : late.id.client ≡ early.id.client = ap (λ (i : TxnId). i.client) e in omega (arith, k)
+
+-- the client's two attempts
+attempts-apart : early.id ≡ second.id → ⊥
+attempts-apart e = let k : early.id.seq ≡ second.id.seq = ap (λ (i : TxnId). i.seq) e in omega (arith, k)
+
+attempts-coherent : AreCoherent (early ∷ second ∷ early ∷ second ∷ [])
+attempts-coherent = two-coherent early second (early ∷ second ∷ early ∷ second ∷ []) attempts-apart
+    (λ e. let k : early.stamp.time ≡ second.stamp.time = ap (λ (s : Stamp). s.time) e in omega (arith, k))
+    (inl refl, (inr refl, (inl refl, (inr refl, tt))))
+
+pub covered-asked : ArePromises covered
+covered-asked = record {
+  distinct_replicas = ((λ a. elim a [ inl e ↦ absurd (omega (arith, e)) | inr n ↦ n ]), ((λ a. a), tt));
+  distinct_ids = (((λ a. elim a [ inl e ↦ absurd (attempts-apart (sym e)) | inr n ↦ n ]), ((λ a. a), tt)), (((λ a. elim a [ inl e ↦ absurd (attempts-apart (sym e)) | inr n ↦ n ]), ((λ a. a), tt)), tt));
+  one_base = one-base covered (refl, (refl, tt));
+  coherent = attempts-coherent;
+  entries_fit = ((fits _ refl, (fits _ refl, tt)), ((fits _ refl, (fits _ refl, tt)), tt));
+}
+
+pub adopted-asked : ArePromises (adopted_by_two (merged 1 1 covered))
+adopted-asked = record {
+  distinct_replicas = ((λ a. elim a [ inl e ↦ absurd (omega (arith, e)) | inr n ↦ n ]), ((λ a. a), tt));
+  distinct_ids = (tt, (tt, tt));
+  one_base = λ p q a b e. same p a ∙ sym (same q b);
+  coherent = attempts-coherent;
+  entries_fit = (tt, (tt, tt));
+}
+  where
+    same : (p : PromiseState) → Among p (adopted_by_two (merged 1 1 covered)) → p.base ≡ merged 1 1 covered
+    same p a = Each-among (λ (s : PromiseState). s.base ≡ merged 1 1 covered) p (adopted_by_two (merged 1 1 covered)) (refl, (refl, tt)) a

@@ -1,0 +1,135 @@
+-- What commits leave at keys, one write or read after another.
+use Rattle.std.proofs.Common.{◌≡◌, ℕ, ◌<◌, ◌≤◌, ◌+◌, Bool, true, false, refl, sym, ap, subst, ◌∙◌, List, [], ◌∷◌, ◌++◌, length, get_or, drop, arith, length-append, ◌==◌, cond}
+use Rattle.std.proofs.lemmas.Bool.Decides.{nat_tests}
+use Rattle.std.proofs.lemmas.List.{drop_all, get_or_append_left, get_or_push}
+use native.Mathlib.Decide.{dec_lt}
+use mathlib.Core.Logic.{dite}
+use Rattle.mk_txn.specs.declared.Stamp.{Stamp}
+use Rattle.mk_txn.specs.declared.ReadItem.{ReadItem}
+use Rattle.mk_txn.specs.declared.WriteItem.{WriteItem}
+use Rattle.mk_txn.specs.Outcomes.{is_commit}
+use Rattle.mk_txn.specs.LatestWrites.{after_writes}
+use Rattle.mk_cell.specs.Cells.{CellView}
+use Rattle.mk_merge.specs.declared.Fated.{Fated}
+use Rattle.mk_merge.specs.Bases.{commits_in}
+use Rattle.mk_merge.specs.Lefts.{LeftState, with_write, with_read, after_reads, after_commit, left_by, cell_left}
+use Rattle.mk_merge.proofs.ListLaws.{drop-at}
+use Rattle.mk_snap.specs.Snapshots.{left_at, AreCells}
+
+swapped : (a b : ℕ) → (a == b) ≡ (b == a)
+swapped a b = grind (arith, nat_tests)
+
+-- ---- writes
+
+-- with the writes that are left it comes to all of them
+abbrev pub ComesToWritten : Stamp → List WriteItem → ℕ → List (ℕ × LeftState) → List (ℕ × LeftState) → Type 0
+ComesToWritten stamp items i begun lefts =
+    (key : ℕ) → (after_writes key stamp (left_at key lefts).latest (drop i items) ≡ after_writes key stamp (left_at key begun).latest items) × ((left_at key lefts).rts ≡ (left_at key begun).rts)
+
+pub written-next : (stamp : Stamp) (items : List WriteItem) (i : ℕ) (item : WriteItem) (begun old new : List (ℕ × LeftState)) → i < length items → item ≡ get_or items i item
+    → ((other : ℕ) → left_at other new ≡ cond (other == item.key) (with_write stamp item.value (left_at other old)) (left_at other old))
+    → ComesToWritten stamp items i begun old → ComesToWritten stamp items (i + 1) begun new
+written-next stamp items i item begun old new within is made h key =
+    let here : left_at key new ≡ cond (item.key == key) (with_write stamp item.value (left_at key old)) (left_at key old) =
+    made key ∙ ap (λ (b : Bool). cond b (with_write stamp item.value (left_at key old)) (left_at key old)) (swapped key item.key) in (
+      ap (λ (l : LeftState). after_writes key stamp l.latest (drop (i + 1) items)) here
+          ∙ latest (item.key == key)
+          ∙ sym (ap (after_writes key stamp (left_at key old).latest) (drop-at items i item within is))
+          ∙ (h key).0,
+      ap (λ (l : LeftState). l.rts) here ∙ rts (item.key == key) ∙ (h key).1,
+    )
+  where
+    one : LeftState
+    one = with_write stamp item.value (left_at key old)
+
+    latest : (b : Bool) → after_writes key stamp (cond b one (left_at key old)).latest (drop (i + 1) items) ≡ after_writes key stamp (cond b one.latest (left_at key old).latest) (drop (i + 1) items)
+    latest true = refl
+    latest false = refl
+
+    rts : (b : Bool) → (cond b one (left_at key old)).rts ≡ (left_at key old).rts
+    rts true = refl
+    rts false = refl
+
+pub written-ends : (stamp : Stamp) (items all : List WriteItem) (i : ℕ) (begun lefts : List (ℕ × LeftState)) → length items ≤ i → items ≡ all → ComesToWritten stamp items i begun lefts
+    → (key : ℕ) → left_at key lefts ≡ record { latest = after_writes key stamp (left_at key begun).latest all; rts = (left_at key begun).rts }
+written-ends stamp items all i begun lefts past same h key =
+    let latest : (left_at key lefts).latest ≡ after_writes key stamp (left_at key begun).latest all =
+    sym (ap (after_writes key stamp (left_at key lefts).latest) (drop_all i items past)) ∙ (h key).0 ∙ ap (after_writes key stamp (left_at key begun).latest) same in
+    λ j. record { latest = latest j; rts = (h key).1 j }
+
+-- ---- reads
+
+abbrev pub ComesToRead : Stamp → List ReadItem → ℕ → List (ℕ × LeftState) → List (ℕ × LeftState) → Type 0
+ComesToRead stamp items i begun lefts =
+    (key : ℕ) → (after_reads key stamp (left_at key lefts).rts (drop i items) ≡ after_reads key stamp (left_at key begun).rts items) × ((left_at key lefts).latest ≡ (left_at key begun).latest)
+
+pub read-next : (stamp : Stamp) (items : List ReadItem) (i : ℕ) (item : ReadItem) (begun old new : List (ℕ × LeftState)) → i < length items → item ≡ get_or items i item
+    → ((other : ℕ) → left_at other new ≡ cond (other == item.key) (with_read stamp (left_at other old)) (left_at other old))
+    → ComesToRead stamp items i begun old → ComesToRead stamp items (i + 1) begun new
+read-next stamp items i item begun old new within is made h key =
+    let here : left_at key new ≡ cond (item.key == key) (with_read stamp (left_at key old)) (left_at key old) =
+    made key ∙ ap (λ (b : Bool). cond b (with_read stamp (left_at key old)) (left_at key old)) (swapped key item.key) in (
+      ap (λ (l : LeftState). after_reads key stamp l.rts (drop (i + 1) items)) here
+          ∙ rts (item.key == key)
+          ∙ sym (ap (after_reads key stamp (left_at key old).rts) (drop-at items i item within is))
+          ∙ (h key).0,
+      ap (λ (l : LeftState). l.latest) here ∙ latest (item.key == key) ∙ (h key).1,
+    )
+  where
+    one : LeftState
+    one = with_read stamp (left_at key old)
+
+    rts : (b : Bool) → after_reads key stamp (cond b one (left_at key old)).rts (drop (i + 1) items) ≡ after_reads key stamp (cond b one.rts (left_at key old).rts) (drop (i + 1) items)
+    rts true = refl
+    rts false = refl
+
+    latest : (b : Bool) → (cond b one (left_at key old)).latest ≡ (left_at key old).latest
+    latest true = refl
+    latest false = refl
+
+pub read-ends : (stamp : Stamp) (items all : List ReadItem) (i : ℕ) (begun lefts : List (ℕ × LeftState)) → length items ≤ i → items ≡ all → ComesToRead stamp items i begun lefts
+    → (key : ℕ) → left_at key lefts ≡ record { latest = (left_at key begun).latest; rts = after_reads key stamp (left_at key begun).rts all }
+read-ends stamp items all i begun lefts past same h key =
+    let rts : (left_at key lefts).rts ≡ after_reads key stamp (left_at key begun).rts all =
+    sym (ap (after_reads key stamp (left_at key lefts).rts) (drop_all i items past)) ∙ (h key).0 ∙ ap (after_reads key stamp (left_at key begun).rts) same in
+    λ j. record { latest = (h key).1 j; rts = rts j }
+
+-- ---- commits
+
+abbrev pub ComesToAdded : List Fated → ℕ → List (ℕ × LeftState) → List (ℕ × LeftState) → Type 0
+ComesToAdded list i begun lefts = (key : ℕ) → left_by key (left_at key lefts) (commits_in (drop i list)) ≡ left_by key (left_at key begun) (commits_in list)
+
+pub added-next : (list : List Fated) (i : ℕ) (f : Fated) (begun old new : List (ℕ × LeftState)) → i < length list → f ≡ get_or list i f → is_commit f.outcome ≡ true
+    → ((key : ℕ) → left_at key new ≡ after_commit key f.txn (left_at key old)) → ComesToAdded list i begun old → ComesToAdded list (i + 1) begun new
+added-next list i f begun old new within is commit made h key =
+    ap (λ (l : LeftState). left_by key l (commits_in (drop (i + 1) list))) (made key)
+    ∙ ap (λ (b : Bool). left_by key (left_at key old) (cond b (f.txn ∷ commits_in (drop (i + 1) list)) (commits_in (drop (i + 1) list)))) (sym commit)
+    ∙ ap (λ (fs : List Fated). left_by key (left_at key old) (commits_in fs)) (sym (drop-at list i f within is))
+    ∙ h key
+
+pub added-skip : (list : List Fated) (i : ℕ) (f : Fated) (begun lefts : List (ℕ × LeftState)) → i < length list → f ≡ get_or list i f → is_commit f.outcome ≡ false
+    → ComesToAdded list i begun lefts → ComesToAdded list (i + 1) begun lefts
+added-skip list i f begun lefts within is abort h key =
+    ap (λ (b : Bool). left_by key (left_at key lefts) (cond b (f.txn ∷ commits_in (drop (i + 1) list)) (commits_in (drop (i + 1) list)))) (sym abort)
+    ∙ ap (λ (fs : List Fated). left_by key (left_at key lefts) (commits_in fs)) (sym (drop-at list i f within is))
+    ∙ h key
+
+pub added-ends : (list : List Fated) (i : ℕ) (begun lefts : List (ℕ × LeftState)) → length list ≤ i → ComesToAdded list i begun lefts → (key : ℕ) → left_at key lefts ≡ left_by key (left_at key begun) (commits_in list)
+added-ends list i begun lefts past h key = sym (ap (λ (fs : List Fated). left_by key (left_at key lefts) (commits_in fs)) (drop_all i list past)) ∙ h key
+
+-- ---- cells
+
+pub cells-none : (lefts : List (ℕ × LeftState)) (cells : List CellView) → cells ≡ [] → AreCells lefts 0 cells
+cells-none lefts cells is = record { all = ap length is; each = λ key d within. absurd (omega (arith, within)) }
+
+pub cells-next : (lefts : List (ℕ × LeftState)) (count : ℕ) (old new : List CellView) (cell : CellView) → cell.state ≡ cell_left (left_at count lefts) → new ≡ old ++ cell ∷ [] → AreCells lefts count old → AreCells lefts (count + 1) new
+cells-next lefts count old new cell made pushed h = subst (AreCells lefts (count + 1)) (sym pushed) (record {
+  all = let long = h.all in omega (arith, length-append old (cell ∷ []), long);
+  each = λ key d inside. dite (dec_lt key count)
+      (λ lt. let long = h.all in let here : key < length old = omega (arith, lt, long) in
+      ap (λ (c : CellView). c.state) (get_or_append_left old (cell ∷ []) d key here) ∙ h.each key d lt)
+      (λ ge. let long = h.all in
+      let last : count ≡ key = omega (arith, ge, inside) in
+      let end : length old ≡ key = omega (arith, ge, inside, long) in
+      ap (λ (c : CellView). c.state) (get_or_push old cell d key end) ∙ made ∙ ap (λ k. cell_left (left_at k lefts)) last);
+})

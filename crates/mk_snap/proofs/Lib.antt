@@ -1,0 +1,3 @@
+pub mod LeftsLaws
+pub mod SnapLaws
+pub mod Asked

@@ -1,0 +1,3 @@
+-- Snapshots of bases.
+pub mod Snapshots
+pub mod Rows

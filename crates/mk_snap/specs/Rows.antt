@@ -1,0 +1,104 @@
+-- Transactions and promises of worked cases.
+use Rattle.std.specs.Prelude.{ℕ, List, [], ◌∷◌, Option, Some, None}
+use Rattle.mk_txn.specs.declared.Value.TheVariants.{Number}
+use Rattle.mk_txn.specs.declared.Vote.TheVariants.{Ok as VoteOk}
+use Rattle.mk_txn.specs.declared.Accepted.{Accepted}
+use Rattle.mk_txn.specs.declared.Outcome.{Outcome}
+use Rattle.mk_txn.specs.declared.Outcome.TheVariants.{Commit}
+use Rattle.mk_txn.specs.Stamps.{zero_stamp}
+use Rattle.mk_txn.specs.Transactions.{Transaction}
+use Rattle.mk_record.specs.declared.Entry.{Entry}
+use Rattle.mk_merge.specs.Bases.{BaseState, empty_base}
+use Rattle.mk_merge.specs.Promises.{PromiseState}
+
+-- reads the first version of key 0 and writes key 1, at 20.1
+abbrev pub reader : Transaction
+reader =
+    record {
+      id = record { client = 1; seq = 1 };
+      stamp = record { time = 20; client = 1 };
+      reads = record { key = 0; version = zero_stamp; value = Number 0 } ∷ [];
+      writes = record { key = 1; value = Number 1 } ∷ [];
+    }
+
+-- writes key 0 at 10.2
+abbrev pub writer : Transaction
+writer =
+    record {
+      id = record { client = 2; seq = 1 };
+      stamp = record { time = 10; client = 2 };
+      reads = [];
+      writes = record { key = 0; value = Number 2 } ∷ [];
+    }
+
+-- writes key 0 at 10.1
+abbrev pub early : Transaction
+early =
+    record {
+      id = record { client = 1; seq = 1 };
+      stamp = record { time = 10; client = 1 };
+      reads = [];
+      writes = record { key = 0; value = Number 5 } ∷ [];
+    }
+
+-- reads what that wrote, at 20.2
+abbrev pub late : Transaction
+late =
+    record {
+      id = record { client = 2; seq = 1 };
+      stamp = record { time = 20; client = 2 };
+      reads = record { key = 0; version = record { time = 10; client = 1 }; value = Number 5 } ∷ [];
+      writes = [];
+    }
+
+-- the client's next attempt, which writes key 1 at 20.1
+abbrev pub second : Transaction
+second =
+    record {
+      id = record { client = 1; seq = 2 };
+      stamp = record { time = 20; client = 1 };
+      reads = [];
+      writes = record { key = 1; value = Number 6 } ∷ [];
+    }
+
+-- an entry with an Ok vote
+abbrev pub voted : Transaction → Option Accepted → Option Outcome → Entry
+voted txn accepted last = record { txn = txn; view = 0; vote = Some VoteOk; accepted = accepted; last = last }
+
+-- a promise from epoch 0
+abbrev pub promised : ℕ → List Entry → PromiseState
+promised r entries = record { replica = r; adopted = 0; base = empty_base; entries = entries; marks = [] }
+
+-- two votes for the reader, and an accepted commit of the writer
+abbrev pub conflicting : List PromiseState
+conflicting =
+    promised 1 (voted reader None None ∷ [])
+    ∷ promised 0 (voted reader None None ∷ [])
+    ∷ promised 2 (voted writer (Some (record { view = 0; outcome = Commit })) None ∷ [])
+    ∷ []
+
+-- final commits of the early write and of the read of it
+abbrev pub finished : List PromiseState
+finished =
+    promised 1 (voted early None (Some Commit) ∷ voted late None (Some Commit) ∷ [])
+    ∷ promised 0 []
+    ∷ []
+
+-- final commits of both attempts of the client
+abbrev pub two_entries : List Entry
+two_entries = voted early None (Some Commit) ∷ voted second None (Some Commit) ∷ []
+
+-- both are reported twice, and one mark covers the first
+abbrev pub covered : List PromiseState
+covered =
+    record { replica = 1; adopted = 0; base = empty_base; entries = two_entries; marks = (1, 1) ∷ [] }
+    ∷ promised 0 two_entries
+    ∷ []
+
+-- a promise from epoch 1, whose base this is, without entries
+abbrev pub promised_on : ℕ → BaseState → PromiseState
+promised_on r base = record { replica = r; adopted = 1; base = base; entries = []; marks = [] }
+
+-- two replicas have adopted this base
+abbrev pub adopted_by_two : BaseState → List PromiseState
+adopted_by_two base = promised_on 0 base ∷ promised_on 1 base ∷ []

@@ -1,0 +1,312 @@
+ghost use Rattle.std.specs.Prelude.{◌≡◌, [], ◌∷◌, None, Some, IfOk};
+ghost use Rattle.mk_txn.specs.declared.Value.TheVariants.{Number};
+ghost use Rattle.mk_merge.specs.Keepings.{PromiseStands, Stand};
+ghost use Rattle.mk_snap.specs.Rows.{reader as is_reader, writer as is_writer, early as is_early, late as is_late, second as is_second, voted, promised, conflicting as are_conflicting, finished as are_finished, covered as are_covered, two_entries, promised_on, adopted_by_two};
+ghost use Rattle.mk_merge.specs.Bases.{BaseState};
+
+use crate::Snap;
+use mk_cell::{Act, Answer};
+use mk_merge::{Base, Entries, Keeping, MergeError, Promise};
+use mk_quorum::Size;
+use mk_record::Entry;
+use mk_txn::{
+    Accepted, Cause, Known, Marks, NoMemory, Outcome, ReadItem, Stamp, Txn, TxnError, TxnId, Value,
+    Vote, WriteItem,
+};
+use std::alloc::Global;
+use std::process::Abort;
+use std::test::Fail;
+
+const READER: TxnId = TxnId { client: 1, seq: 1 };
+
+const WRITER: TxnId = TxnId { client: 2, seq: 1 };
+
+const EARLY: TxnId = TxnId { client: 1, seq: 1 };
+
+const SECOND: TxnId = TxnId { client: 1, seq: 2 };
+
+const LATE: TxnId = TxnId { client: 2, seq: 1 };
+
+const OTHER: TxnId = TxnId { client: 3, seq: 1 };
+
+fn stamp(time: u64, client: u32) -> Stamp
+    ensures { result ≡ record { time = time; client = client } }
+{
+    Stamp { time, client }
+}
+
+fn read(time: u64, client: u32, value: u64) -> ReadItem
+    ensures { result ≡ record { key = 0; version = record { time = time; client = client }; value = Number value } }
+{
+    ReadItem {
+        key: 0,
+        version: stamp(time, client),
+        value: Value::Number(value),
+    }
+}
+
+fn write(key: u32, value: u64) -> WriteItem
+    ensures { result ≡ record { key = key; value = Number value } }
+{
+    WriteItem {
+        key,
+        value: Value::Number(value),
+    }
+}
+
+fn reader(alloc: Global) -> Result<Txn, TxnError>
+    ensures { IfOk result (λ txn. txn ≡ is_reader) }
+{
+    Txn::new(
+        alloc,
+        READER,
+        stamp(20, 1),
+        &[read(0, 0, 0)],
+        &[write(1, 1)],
+    )
+}
+
+fn writer(alloc: Global) -> Result<Txn, TxnError>
+    ensures { IfOk result (λ txn. txn ≡ is_writer) }
+{
+    Txn::new(alloc, WRITER, stamp(10, 2), &[], &[write(0, 2)])
+}
+
+// Writes key 0 at 10.1.
+fn early(alloc: Global) -> Result<Txn, TxnError>
+    ensures { IfOk result (λ txn. txn ≡ is_early) }
+{
+    Txn::new(alloc, EARLY, stamp(10, 1), &[], &[write(0, 5)])
+}
+
+// Reads what that wrote, at 20.2.
+fn late(alloc: Global) -> Result<Txn, TxnError>
+    ensures { IfOk result (λ txn. txn ≡ is_late) }
+{
+    Txn::new(alloc, LATE, stamp(20, 2), &[read(10, 1, 5)], &[])
+}
+
+// Writes key 1 at 20.1.
+fn second(alloc: Global) -> Result<Txn, TxnError>
+    ensures { IfOk result (λ txn. txn ≡ is_second) }
+{
+    Txn::new(alloc, SECOND, stamp(20, 1), &[], &[write(1, 6)])
+}
+
+fn size_of(f: u32) -> Result<Size, Fail>
+    ensures { IfOk result (λ size. size ≡ f) }
+{
+    let size = Size::new(f).ok_or("a size")?;
+    Ok(size)
+}
+
+// An entry with an Ok vote.
+fn entry(txn: Txn, accepted: Option<Accepted>, last: Option<Outcome>) -> Entry
+    ensures { result ≡ voted txn accepted last }
+{
+    Entry {
+        txn,
+        view: 0,
+        vote: Some(Vote::Ok),
+        accepted,
+        last,
+    }
+}
+
+fn one(alloc: Global, entry: Entry) -> Result<Vec<Entry>, NoMemory>
+    ensures { IfOk result (λ entries. entries.items ≡ entry ∷ []) }
+{
+    let mut entries = Vec::new(alloc);
+    entries.push(entry)?;
+    Ok(entries)
+}
+
+// A promise from epoch 0 with these entries.
+fn promise<K: Keeping>(alloc: Global, replica: u32, entries: Vec<Entry>) -> Promise<K>
+    ensures { PromiseStands K K.stands result (promised replica entries.items) }
+{
+    Promise {
+        replica,
+        adopted: 0,
+        base: K::empty(alloc),
+        entries: Entries::of(alloc, entries),
+        marks: Marks::new(alloc),
+    }
+}
+
+// Two votes for the reader, and an accepted commit of the writer.
+fn conflicting<K: Keeping>(alloc: Global) -> Result<Vec<Promise<K>>, Fail>
+    ensures { IfOk result (λ made. Stand K K.stands made.items are_conflicting) }
+{
+    let commit = Accepted {
+        view: 0,
+        outcome: Outcome::Commit,
+    };
+    let first = one(alloc, entry(reader(alloc)?, None, None))?;
+    let second = one(alloc, entry(reader(alloc)?, None, None))?;
+    let third = one(alloc, entry(writer(alloc)?, Some(commit), None))?;
+    let mut promises = Vec::new(alloc);
+    promises.push(promise(alloc, 1, first))?;
+    promises.push(promise(alloc, 0, second))?;
+    promises.push(promise(alloc, 2, third))?;
+    Ok(promises)
+}
+
+// A candidate gives way to an accepted commit.
+fn candidate_gives_way<K: Keeping>(rt: &impl Abort, alloc: Global) -> Result<(), Fail> {
+    let size = size_of(2)?;
+    let promises: Vec<Promise<K>> = conflicting(alloc)?;
+    let made = K::merge(alloc, size, 1, promises.as_slice())?;
+    let aborted = Known::Outcome(Outcome::Abort(Cause::Epoch(1)));
+    assert_eq!(rt; made.fates().fate(READER), aborted);
+    assert_eq!(rt; made.fates().fate(WRITER), Known::Outcome(Outcome::Commit));
+    assert_eq!(rt; made.fates().fate(OTHER), Known::Absent);
+    let copy = made.copy()?;
+    assert!(rt; !copy.fits(&reader(alloc)?));
+    assert!(rt; copy.fits(&writer(alloc)?));
+    Ok(())
+}
+
+// Final commits of a write and of a read of it.
+fn finished<K: Keeping>(alloc: Global) -> Result<Vec<Promise<K>>, Fail>
+    ensures { IfOk result (λ made. Stand K K.stands made.items are_finished) }
+{
+    let commit = Some(Outcome::Commit);
+    let mut entries = one(alloc, entry(early(alloc)?, None, commit))?;
+    entries.push(entry(late(alloc)?, None, commit))?;
+    let mut promises = Vec::new(alloc);
+    promises.push(promise(alloc, 1, entries))?;
+    promises.push(promise(alloc, 0, Vec::new(alloc)))?;
+    Ok(promises)
+}
+
+// What fits after a write at 10.1 and a read at 20.2: no write below the read, and no read below the write.
+fn later_ones_fit<K: Keeping>(rt: &impl Abort, alloc: Global) -> Result<(), Fail> {
+    let size = size_of(1)?;
+    let promises: Vec<Promise<K>> = finished(alloc)?;
+    let made = K::merge(alloc, size, 1, promises.as_slice())?;
+    assert_eq!(rt; made.fates().commits(), 2);
+    let under_read = Txn::new(alloc, OTHER, stamp(15, 3), &[], &[write(0, 6)])?;
+    assert!(rt; !made.fits(&under_read));
+    let stale = Txn::new(alloc, OTHER, stamp(25, 3), &[read(0, 0, 0)], &[])?;
+    assert!(rt; !made.fits(&stale));
+    let fresh = Txn::new(alloc, OTHER, stamp(25, 3), &[read(10, 1, 5)], &[])?;
+    assert!(rt; made.fits(&fresh));
+    let cell = made.cells(1)?.pop();
+    let Some(mut cell) = cell else {
+        panic!(rt; "one cell")
+    };
+    let version = stamp(10, 1);
+    let value = Value::Number(5);
+    assert_eq!(rt; cell.act(Act::Get), Answer::Version { version, value });
+    Ok(())
+}
+
+#[test]
+fn a_candidate_gives_way_in_a_list(rt: HostRuntime) -> Result<(), Fail> {
+    candidate_gives_way::<Base>(&rt, rt.alloc())
+}
+
+#[test]
+fn a_candidate_gives_way_in_a_snapshot(rt: HostRuntime) -> Result<(), Fail> {
+    candidate_gives_way::<Snap>(&rt, rt.alloc())
+}
+
+#[test]
+fn later_ones_fit_a_list(rt: HostRuntime) -> Result<(), Fail> {
+    later_ones_fit::<Base>(&rt, rt.alloc())
+}
+
+#[test]
+fn later_ones_fit_a_snapshot(rt: HostRuntime) -> Result<(), Fail> {
+    later_ones_fit::<Snap>(&rt, rt.alloc())
+}
+
+// Final commits of two attempts of a client.
+fn two_commits(alloc: Global) -> Result<Vec<Entry>, Fail>
+    ensures { IfOk result (λ entries. entries.items ≡ two_entries) }
+{
+    let commit = Some(Outcome::Commit);
+    let mut entries = one(alloc, entry(early(alloc)?, None, commit))?;
+    entries.push(entry(second(alloc)?, None, commit))?;
+    Ok(entries)
+}
+
+fn one_mark(alloc: Global) -> Result<Marks, NoMemory>
+    ensures { IfOk result (λ marks. marks ≡ (1, 1) ∷ []) }
+{
+    let mut marks = Marks::new(alloc);
+    marks.raise(1, 1)?;
+    Ok(marks)
+}
+
+// Two commits of a client, the first of which one of the promises' marks cover.
+fn covered<K: Keeping>(alloc: Global) -> Result<Vec<Promise<K>>, Fail>
+    ensures { IfOk result (λ made. Stand K K.stands made.items are_covered) }
+{
+    let mut first = promise(alloc, 1, two_commits(alloc)?);
+    first.marks = one_mark(alloc)?;
+    let mut promises = Vec::new(alloc);
+    promises.push(first)?;
+    promises.push(promise(alloc, 0, two_commits(alloc)?))?;
+    Ok(promises)
+}
+
+// A promise from epoch 1 without entries.
+fn promise_on<K: Keeping>(alloc: Global, replica: u32, base: K) -> Promise<K>
+    ensures { (state : BaseState) → K.stands base state → PromiseStands K K.stands result (promised_on replica state) }
+{
+    Promise {
+        replica,
+        adopted: 1,
+        base,
+        entries: Entries::of(alloc, Vec::new(alloc)),
+        marks: Marks::new(alloc),
+    }
+}
+
+// Promises of two replicas that adopted this base.
+fn adopted<K: Keeping>(alloc: Global, base: &K) -> Result<Vec<Promise<K>>, NoMemory>
+    ensures { IfOk result (λ made. (state : BaseState) → K.stands base.now state → Stand K K.stands made.items (adopted_by_two state)) }
+{
+    let mut promises = Vec::new(alloc);
+    promises.push(promise_on(alloc, 0, base.copy()?))?;
+    promises.push(promise_on(alloc, 1, base.copy()?))?;
+    Ok(promises)
+}
+
+// A covered outcome is not counted, and stays forgotten in the epoch after.
+fn covered_is_forgotten<K: Keeping>(rt: &impl Abort, alloc: Global) -> Result<(), Fail> {
+    let size = size_of(1)?;
+    let promises: Vec<Promise<K>> = covered(alloc)?;
+    let made = K::merge(alloc, size, 1, promises.as_slice())?;
+    assert_eq!(rt; made.fates().commits(), 1);
+    let again: Vec<Promise<K>> = adopted(alloc, &made)?;
+    let next = K::merge(alloc, size, 3, again.as_slice())?;
+    assert_eq!(rt; (next.fates().commits(), next.fates().aborts()), (1, 0));
+    assert_eq!(rt; next.fates().fate(EARLY), Known::Forgotten);
+    assert_eq!(rt; next.fates().fate(SECOND), Known::Outcome(Outcome::Commit));
+    assert!(rt; !next.fits(&reader(alloc)?));
+    assert!(rt; next.fits(&late(alloc)?));
+    Ok(())
+}
+
+#[test]
+fn a_covered_outcome_is_forgotten_in_a_list(rt: HostRuntime) -> Result<(), Fail> {
+    covered_is_forgotten::<Base>(&rt, rt.alloc())
+}
+
+#[test]
+fn a_covered_outcome_is_forgotten_in_a_snapshot(rt: HostRuntime) -> Result<(), Fail> {
+    covered_is_forgotten::<Snap>(&rt, rt.alloc())
+}
+
+#[test]
+fn too_few_promises_make_no_snapshot(rt: HostRuntime) -> Result<(), Fail> {
+    let alloc = rt.alloc();
+    let size = size_of(1)?;
+    let promises: Vec<Promise<Snap>> = Vec::new(alloc);
+    let error = Snap::merge(alloc, size, 1, promises.as_slice()).err();
+    assert_eq!(rt; error, Some(MergeError::Short(0)));
+    Ok(())
+}
