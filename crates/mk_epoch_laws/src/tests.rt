@@ -9,6 +9,7 @@ use mk_global::{GlobalAnswer, GlobalLine};
 use mk_io::{EpochWord, MemWord};
 use mk_merge::{Base, Keeping, Phase};
 use mk_quorum::Size;
+use mk_snap::Snap;
 use mk_txn::Marks;
 use std::alloc::Global;
 use std::process::Abort;
@@ -374,15 +375,18 @@ fn random_lines<B: Keeping>(rt: &impl Abort, alloc: Global, count: u32) -> Resul
 
 #[test]
 fn calls_on_the_epoch_machine(rt: HostRuntime) -> Result<(), Fail> {
-    calls::<Base>(&rt, rt.alloc())
+    calls::<Base>(&rt, rt.alloc())?;
+    calls::<Snap>(&rt, rt.alloc())
 }
 
 #[test]
 fn words_may_fail(rt: HostRuntime) -> Result<(), Fail> {
-    failing_words::<Base>(&rt, rt.alloc())
+    failing_words::<Base>(&rt, rt.alloc())?;
+    failing_words::<Snap>(&rt, rt.alloc())
 }
 
 #[test]
 fn words_never_fall(rt: HostRuntime) -> Result<(), Fail> {
-    random_lines::<Base>(&rt, rt.alloc(), 5000)
+    random_lines::<Base>(&rt, rt.alloc(), 5000)?;
+    random_lines::<Snap>(&rt, rt.alloc(), 5000)
 }
