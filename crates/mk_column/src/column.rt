@@ -1,6 +1,6 @@
 //! One core number on all replicas.
-ghost use Rattle.std.specs.Prelude.{◌≡◌, [], true, ◌&&◌, ◌^◌, nat_le, is_none, is_some, IfSome, IfOk, IsSome, Some, ◌<◌, ◌≤◌, slice_get, option_map, option_copied};
-ghost use Rattle.mk_column.specs.ColumnState.{AttemptState, ClientState, attempt_of, takeover_of, client_of, entries_at, marks_at, shown};
+ghost use Rattle.std.specs.Prelude.{◌≡◌, [], length, true, ◌&&◌, ◌^◌, nat_le, is_none, is_some, IfSome, IfOk, IsSome, Some, ◌<◌, ◌≤◌, slice_get, option_map, option_copied};
+ghost use Rattle.mk_column.specs.ColumnState.{AttemptState, ClientState, attempt_of, takeover_of, client_of, entries_at, marks_at, shown, open_at};
 ghost use Rattle.mk_column.specs.declared.Step.TheVariants.{Read, Validate, Again, Stop, Take, Rule, Pick, Takeover, Begin, Unread, Key, Stamp as StampStep};
 ghost use Rattle.mk_column.specs.Conditions.{is_idle, wanted, first_failing, further_conditions, on_attempt, acts_on, picks_one, is_validate_of, leader_serves as leader_serves_in, may_begin as may_begin_in, heard_by, same_call, stamp_exists, first_condition, blocked as blocked_by, serves_from as serving_from};
 ghost use Rattle.mk_column.specs.ClientsByCode.{seen_client};
@@ -272,8 +272,8 @@ impl Column {
         ])
     }
 
-    // Whether a Validate of the attempt was sent.
-    fn is_validated(&self, id: TxnId) -> bool
+    /// Whether a Validate of the attempt was sent.
+    pub fn is_validated(&self, id: TxnId) -> bool
         ensures { result ≡ list_any (is_validate_of id) self.now.state.link }
     {
         match self.attempts.find(id) {
@@ -326,8 +326,8 @@ impl Column {
         }
     }
 
-    // Whether the replica serves an epoch that the client may begin in.
-    fn serves_client(&self, client: u32, replica: u32) -> bool
+    /// Whether the replica serves an epoch that the client may begin in.
+    pub fn serves_client(&self, client: u32, replica: u32) -> bool
         ensures { result ≡ passes (serving_from (heard_by self.now.state client)) (slice_get self.now.setting.views replica) }
     {
         let heard = self.heard(client);
@@ -451,6 +451,32 @@ impl Column {
         } else {
             Some(1)
         }
+    }
+
+    /// Whether the client is of this column.
+    pub fn has_client(&self, client: u32) -> bool
+        ensures { result ≡ is_some (client_of self.now.state client) }
+    {
+        self.client(client).is_some()
+    }
+
+    /// How many takeovers have begun.
+    pub fn takeover_count(&self) -> usize
+        ensures { result ≡ length self.now.state.takeovers }
+    {
+        self.takeovers.len()
+    }
+
+    /// The attempt and the view of the takeover at this place, where it is not done.
+    pub fn open_takeover(&self, place: usize) -> Option<(TxnId, u32)>
+        ensures { result ≡ open_at self.now.state place }
+    {
+        let backup = self.takeovers.get(place)?;
+        if backup.is_closed() {
+            return None;
+        }
+        let turn = backup.turn();
+        Some((turn.id, turn.view))
     }
 }
 

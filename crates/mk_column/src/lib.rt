@@ -77,7 +77,7 @@ impl Reads {
         self.items.len() == 0
     }
 
-    fn as_slice(&self) -> &[ReadItem]
+    pub fn as_slice(&self) -> &[ReadItem]
         ensures { result.now ≡ self.now }
     {
         self.items.as_slice()
@@ -111,6 +111,12 @@ impl Writes {
     ghost use Rattle.std.specs.Prelude.{◌≡◌, ◌&&◌, ◌==◌, nat_lt, nat_le, length};
     ghost use Rattle.std.specs.List.{list_all};
     ghost use Rattle.mk_column.specs.Conditions.{writes_fit};
+
+    pub fn of(items: Vec<WriteItem>) -> Writes
+        ensures { result ≡ items.items }
+    {
+        Writes { items }
+    }
 
     fn is_empty(&self) -> bool
         ensures { result ≡ (length self.now == 0) }
