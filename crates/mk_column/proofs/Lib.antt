@@ -8,3 +8,8 @@ pub mod TurnOrder
 pub mod NumberOrder
 pub mod ColumnLaws
 pub mod StampLaws
+pub mod EachMapped
+pub mod FreshClients
+pub mod RoundLaws
+pub mod ListLaws
+pub mod BeginLaws

@@ -1,5 +1,5 @@
 -- What the code keeps of a client.
-use Rattle.std.specs.Prelude.{ℕ, Bool, ◌==◌, false, List, Option, find, map, option_map, option_copied}
+use Rattle.std.specs.Prelude.{ℕ, ◌+◌, max, Bool, ◌==◌, false, List, Option, find, map, option_map, option_copied}
 use Rattle.std.specs.Borrow.{Bor}
 use Rattle.mk_lists.specs.Changed.{change}
 use Rattle.mk_column.specs.declared.clients.Client.{Client}
@@ -8,6 +8,15 @@ use Rattle.mk_column.specs.ColumnState.{ClientState}
 -- a client that has begun nothing
 abbrev pub fresh_client : ℕ → Client
 fresh_client number = record { number = number; last_time = 0; next_seq = 1; heard = 0; reading = false }
+
+-- a client none of whose attempts reads
+abbrev pub not_reading : Client → Client
+not_reading client = record client { reading = false }
+
+-- a client that has begun one more attempt, in this epoch, and whether it reads
+abbrev pub client_begun : ℕ → Bool → Client → Client
+client_begun epoch reading client =
+    record client { next_seq = client.next_seq + 1; heard = max client.heard epoch; reading = reading }
 
 -- the client's number
 abbrev pub number_of : Client → ℕ
