@@ -21,14 +21,15 @@ use Rattle.mk_column.specs.declared.clients.Client.{Client}
 use Rattle.mk_column.specs.declared.work.Work.{Work as KeptWork}
 use Rattle.mk_column.specs.declared.work.Work.TheVariants.{Idle as KeptIdle, Fetching as KeptFetching, Validating as KeptValidating, Finishing as KeptFinishing}
 use Rattle.mk_column.specs.ClientsByCode.{client_state, client_states, kept_client, change_kept, client_begun}
-use Rattle.mk_column.specs.ColumnState.{Setting, ColumnState, ClientState, Learning, is_settled, client_of, change_client}
+use Rattle.mk_column.specs.ColumnState.{Setting, ColumnState, ClientState, Learning, is_settled, client_of, change_client, is_client}
 use Rattle.mk_column.specs.Replicas.{Held}
 use Rattle.mk_column.specs.Conditions.{is_validate_of}
-use Rattle.mk_column.specs.Steps.{begun, next_id, new_attempt, unread_attempt, epoch_of, column_after}
+use Rattle.mk_column.specs.declared.Step.TheVariants.{Begin, Unread}
+use Rattle.mk_column.specs.Steps.{begun, next_id, new_attempt, unread_attempt, epoch_of, on_some, beginning, left_unread, stepped, column_after}
 use Rattle.mk_column.specs.AttemptsByCode.{BegunView, as_begun, is_begun, begun_of, states_of}
 use Rattle.mk_column.specs.ColumnByCode.{Kept, IsKept, AttemptFits, ClientFits, WorkFits, has_reading, first_decision, learning_of_kept, column_of}
 use Rattle.mk_column.proofs.ColumnLaws.{find-map, client-found, find-passes, Each-find}
-use Rattle.mk_column.proofs.ListLaws.{find-change, map-change, changed_member}
+use Rattle.mk_column.proofs.ListLaws.{Each-turn, find-change, map-change, changed_member}
 
 -- the number of a client's next attempt
 abbrev pub next_of : Client → TxnId
@@ -103,3 +104,177 @@ settled-append id all new none = ap (passes (λ (b : BegunView). is_settled b.st
 reading-append : (n : ℕ) (all : List BegunView) (new : BegunView) → has_reading n (all ++ new ∷ []) ≡ (has_reading n all || (new.state.reading && new.state.id.client == n))
 reading-append n [] new = grind nat_tests
 reading-append n (b ∷ all) new = ap (λ t. (b.state.reading && b.state.id.client == n) || t) (reading-append n all new) ∙ grind nat_tests
+
+-- ---- what each attempt and each client keeps
+
+new-fits : (f : ℕ) (kept : Kept) (ends : SettledAttempts) (client : Client) (new : BegunView) → IsKept f kept ends → begun_of new.state.id kept.attempts ≡ None → client.next_seq ≤ 16384 → IsNext f client new
+    → AttemptFits f kept.link (map learning_of_kept kept.learned) new
+new-fits f kept ends client new h none upto next =
+    record {
+      faults = next.faults;
+      validated = next.validated ∙ sym (h.validates new.state.id none);
+      decided = next.decided ∙ sym (h.decisions new.state.id none);
+      named = λ txn e. absurd (none-some txn (sym next.txn ∙ e));
+      unstamped = λ reads. next.txn;
+      seq = subst (λ (id : TxnId). id.seq ≤ 16384) (sym next.id) upto;
+    }
+
+-- where no attempt of a client reads, none of it is the last that reads
+none_last : (n k : ℕ) (all : List BegunView) → has_reading n all ≡ false → Each (λ (b : BegunView). b.state.id.client ≡ n → b.state.reading ≡ true → b.state.id.seq + 1 ≡ k) all
+none_last n k [] e = tt
+none_last n k (b ∷ all) e = ((λ same reads. absurd (false≢true (sym (here same reads) ∙ here_not))), none_last n k all rest_not)
+  where
+    or_left : (a t : Bool) → (a || t) ≡ false → a ≡ false
+    or_left true t h = h
+    or_left false t h = refl
+    or_right : (a t : Bool) → (a || t) ≡ false → t ≡ false
+    or_right true t h = absurd (false≢true (sym h))
+    or_right false t h = h
+    here_not : (b.state.reading && b.state.id.client == n) ≡ false
+    here_not = or_left (b.state.reading && b.state.id.client == n) (has_reading n all) e
+    rest_not : has_reading n all ≡ false
+    rest_not = or_right (b.state.reading && b.state.id.client == n) (has_reading n all) e
+    here : b.state.id.client ≡ n → b.state.reading ≡ true → (b.state.reading && b.state.id.client == n) ≡ true
+    here same reads = grind (arith, nat_tests, same, reads)
+
+-- the client whose attempt begins
+own-fits : (client : Client) (epoch : ℕ) (all : List BegunView) (new : BegunView) → ClientFits all client → client.reading ≡ false → new.state.id ≡ next_of client → ClientFits (all ++ new ∷ []) (client_begun epoch new.state.reading client)
+own-fits client epoch all new h idle is =
+    let of_client : new.state.id.client ≡ client.number = ap (λ (id : TxnId). id.client) is in
+    let of_seq : new.state.id.seq ≡ client.next_seq = ap (λ (id : TxnId). id.seq) is in
+    let none : has_reading client.number all ≡ false = sym h.reading ∙ idle in
+    let here : (new.state.id.client == client.number) ≡ true = grind (arith, nat_tests, of_client) in
+    record {
+      reading = own_reading new.state.reading (new.state.id.client == client.number) (has_reading client.number all) here none ∙ sym (reading-append client.number all new);
+      last_time = h.last_time;
+      next_seq = Each-append (λ (b : BegunView). b.state.id.client ≡ client.number → b.state.id.seq < client.next_seq + 1) all (new ∷ [])
+      (Each-weaker (λ (b : BegunView). b.state.id.client ≡ client.number → b.state.id.seq < client.next_seq) (λ (b : BegunView). b.state.id.client ≡ client.number → b.state.id.seq < client.next_seq + 1) (λ b less same. more b.state.id.seq client.next_seq (less same)) all h.next_seq)
+      ((λ same. next_less new.state.id.seq client.next_seq of_seq), tt);
+      last = Each-append (λ (b : BegunView). b.state.id.client ≡ client.number → b.state.reading ≡ true → b.state.id.seq + 1 ≡ client.next_seq + 1) all (new ∷ [])
+      (none_last client.number (client.next_seq + 1) all none) ((λ same reads. ap (λ k. k + 1) of_seq), tt);
+    }
+  where
+    own_reading : (reads same any : Bool) → same ≡ true → any ≡ false → reads ≡ (any || (reads && same))
+    own_reading reads same any e k = rw (e, k) (and_true reads)
+      where
+        and_true : (b : Bool) → b ≡ (b && true)
+        and_true true = refl
+        and_true false = refl
+    more : (a b : ℕ) → a < b → a < b + 1
+    more a b less = omega arith
+    next_less : (a b : ℕ) → a ≡ b → a < b + 1
+    next_less a b e = omega arith
+
+-- and any other
+other-fits : (n : ℕ) (all : List BegunView) (new : BegunView) (client : Client) → new.state.id.client ≡ n → (client.number == n) ≡ false → ClientFits all client → ClientFits (all ++ new ∷ []) client
+other-fits n all new client is other h =
+    let apart : (new.state.id.client == client.number) ≡ false = grind (arith, nat_tests, is, other) in
+    record {
+      reading = h.reading ∙ same_reading new.state.reading (new.state.id.client == client.number) (has_reading client.number all) apart ∙ sym (reading-append client.number all new);
+      last_time = h.last_time;
+      next_seq = Each-append (λ (b : BegunView). b.state.id.client ≡ client.number → b.state.id.seq < client.next_seq) all (new ∷ []) h.next_seq ((λ same. absurd (not_of same)), tt);
+      last = Each-append (λ (b : BegunView). b.state.id.client ≡ client.number → b.state.reading ≡ true → b.state.id.seq + 1 ≡ client.next_seq) all (new ∷ []) h.last ((λ same reads. absurd (not_of same)), tt);
+    }
+  where
+    not_of : new.state.id.client ≡ client.number → ⊥
+    not_of same = differs client.number n (sym same ∙ is) other
+      where
+        differs : (a b : ℕ) → a ≡ b → (a == b) ≡ false → ⊥
+        differs a b e t = grind (arith, nat_tests, e, t)
+    same_reading : (reads same any : Bool) → same ≡ false → any ≡ (any || (reads && same))
+    same_reading reads same any e = rw e (by_both any reads)
+      where
+        by_both : (a b : Bool) → a ≡ (a || (b && false))
+        by_both true b = refl
+        by_both false true = refl
+        by_both false false = refl
+
+-- ---- clients after the beginning
+
+home-begun : (n m epoch : ℕ) (reading : Bool) (all : List Client) → IsSome (kept_client m all) → IsSome (kept_client m (change_kept n (client_begun epoch reading) all))
+home-begun n m epoch reading all h =
+    subst IsSome (sym (find-change (λ (c : Client). c.number == n) (client_begun epoch reading) (λ (c : Client). c.number == m) (λ c. refl) all)) (from (kept_client m all) h)
+  where
+    from : (o : Option Client) → IsSome o → IsSome (option_map (changed_member (λ (c : Client). c.number == n) (client_begun epoch reading)) o)
+    from None k = absurd (false≢true k)
+    from (Some client) k = refl
+
+work-begun : (n : ℕ) (all : List BegunView) (new : BegunView) (replicas : List Held) (work : KeptWork) → WorkFits n all replicas work → WorkFits n (all ++ new ∷ []) replicas work
+work-begun n all new replicas KeptIdle h = tt
+work-begun n all new replicas (KeptFetching id replica key) h = subst IsSome (sym (begun-append id all new)) (from (begun_of id all) h)
+  where
+    from : (o : Option BegunView) → IsSome o → IsSome (option_or o (cond (same_id new.state.id id) (Some new) None))
+    from None k = absurd (false≢true k)
+    from (Some begun) k = refl
+work-begun n all new replicas (KeptValidating txn replica epoch state) h = h
+work-begun n all new replicas (KeptFinishing replica left) h = tt
+
+-- a column in which a client's next attempt begins keeps what it keeps
+pub IsKept-begun : (f : ℕ) (kept : Kept) (ends after : SettledAttempts) (client : Client) (epoch : ℕ) (new : BegunView) (clients : List Client) → IsKept f kept ends → kept_client client.number kept.clients ≡ Some client → client.reading ≡ false → client.next_seq ≤ 16384
+    → IsNext f client new → SettlesNext ends after new
+    → clients ≡ change_kept client.number (client_begun epoch new.state.reading) kept.clients → clients ≡ change_kept client.number (λ before. client_begun epoch new.state.reading client) kept.clients
+    → IsKept f (record kept { clients = clients; attempts = kept.attempts ++ new ∷ [] }) after
+IsKept-begun f kept ends after client epoch new clients h found idle upto next settles turned put =
+    let n = client.number in
+    let fits : ClientFits kept.attempts client = Each-find (ClientFits kept.attempts) (λ (c : Client). c.number == n) kept.clients client h.clients found in
+    let none : begun_of new.state.id kept.attempts ≡ None = ap (λ id. begun_of id kept.attempts) next.id ∙ next-none client kept.attempts fits.next_seq in
+    let learned = map learning_of_kept kept.learned in
+    let of_client : new.state.id.client ≡ n = ap (λ (id : TxnId). id.client) next.id in
+    let home : (m : ℕ) → IsSome (kept_client m kept.clients) → IsSome (kept_client m clients) = λ m k. subst (λ all. IsSome (kept_client m all)) (sym turned) (home-begun n m epoch new.state.reading kept.clients k) in
+    record {
+      replicas = h.replicas;
+      attempts = Each-append (AttemptFits f kept.link learned) kept.attempts (new ∷ []) h.attempts (new-fits f kept ends client new h none upto next, tt);
+      takeovers = h.takeovers;
+      clients = subst (Each (ClientFits (kept.attempts ++ new ∷ []))) (sym put)
+      (Each-turn (λ (c : Client). c.number == n) (λ before. client_begun epoch new.state.reading client) (ClientFits kept.attempts) (ClientFits (kept.attempts ++ new ∷ []))
+      (λ c same k. own-fits client epoch kept.attempts new fits idle next.id) (λ c other k. other-fits n kept.attempts new c of_client other k) kept.clients h.clients);
+      sent = h.sent;
+      settled = λ id. settles id ∙ ap (λ b. b || (is_settled new.state && same_id id new.state.id)) (h.settled id) ∙ or_assoc (id.seq == 0) (passes (λ (b : BegunView). is_settled b.state) (begun_of id kept.attempts)) (is_settled new.state && same_id id new.state.id)
+      ∙ ap (λ b. (id.seq == 0) || b) (sym (settled-append id kept.attempts new none));
+      decisions = λ id away. h.decisions id (none-append id kept.attempts new away);
+      validates = λ id away. h.validates id (none-append id kept.attempts new away);
+      homes = Each-append (λ (b : BegunView). IsSome (kept_client b.state.id.client clients)) kept.attempts (new ∷ [])
+      (Each-weaker (λ (b : BegunView). IsSome (kept_client b.state.id.client kept.clients)) (λ (b : BegunView). IsSome (kept_client b.state.id.client clients)) (λ b k. home b.state.id.client k) kept.attempts h.homes)
+      (subst (λ m. IsSome (kept_client m clients)) (sym of_client) (home n (subst IsSome (sym found) refl)), tt);
+      work = work-begun (members f) kept.attempts new kept.replicas kept.work h.work;
+    }
+  where
+    or_assoc : (a b t : Bool) → ((a || b) || t) ≡ (a || (b || t))
+    or_assoc true b t = refl
+    or_assoc false b t = refl
+
+-- ---- as the definitions have it
+
+clients-begun : (n epoch : ℕ) (reading : Bool) (all clients : List Client) → clients ≡ change_kept n (client_begun epoch reading) all → client_states clients ≡ change (is_client n) (begun epoch) (client_states all)
+clients-begun n epoch reading all clients is = ap client_states is ∙ map-change (λ (c : Client). c.number == n) (client_begun epoch reading) (is_client n) (begun epoch) client_state (λ c. refl) (λ c. refl) all
+
+pub begin-after : (round : Setting) (kept : Kept) (client : Client) (replica epoch : ℕ) (clients : List Client) → kept_client client.number kept.clients ≡ Some client → epoch_of (slice_get round.views replica) ≡ epoch
+    → clients ≡ change_kept client.number (client_begun epoch true) kept.clients
+    → column_of (record kept { clients = clients; attempts = kept.attempts ++ as_begun round.faults (new_attempt round.faults (next_of client) replica epoch) ∷ [] }) ≡ column_after round (column_of kept) (Begin client.number replica)
+begin-after round kept client replica epoch clients found is turned =
+    let column = column_of kept in
+    let n = client.number in
+    let there : client_of column n ≡ Some (client_state client) = client-found n kept.clients ∙ ap (option_map client_state) found in
+    let after : stepped round column (Begin n replica) ≡ beginning round replica epoch (client_state client) column =
+    ap (λ o. on_some (beginning round replica (epoch_of (slice_get round.views replica))) o column) there ∙ ap (λ e. beginning round replica e (client_state client) column) is in
+    (λ i. record column {
+      clients = clients-begun n epoch true kept.clients clients turned i;
+      attempts = map-append (λ (b : BegunView). b.state) kept.attempts (as_begun round.faults (new_attempt round.faults (next_of client) replica epoch) ∷ []) i;
+      learned = sym (append-nil column.learned) i;
+    })
+    ∙ sym (ap (λ (col : ColumnState). record col { learned = column.learned ++ [] }) after)
+
+pub unread-after : (round : Setting) (kept : Kept) (client : Client) (clients : List Client) → kept_client client.number kept.clients ≡ Some client
+    → clients ≡ change_kept client.number (client_begun 0 false) kept.clients
+    → column_of (record kept { clients = clients; attempts = kept.attempts ++ as_begun round.faults (unread_attempt round.faults (next_of client)) ∷ [] }) ≡ column_after round (column_of kept) (Unread client.number)
+unread-after round kept client clients found turned =
+    let column = column_of kept in
+    let n = client.number in
+    let there : client_of column n ≡ Some (client_state client) = client-found n kept.clients ∙ ap (option_map client_state) found in
+    let after : stepped round column (Unread n) ≡ left_unread round (client_state client) column = ap (λ o. on_some (left_unread round) o column) there in
+    (λ i. record column {
+      clients = clients-begun n 0 false kept.clients clients turned i;
+      attempts = map-append (λ (b : BegunView). b.state) kept.attempts (as_begun round.faults (unread_attempt round.faults (next_of client)) ∷ []) i;
+      learned = sym (append-nil column.learned) i;
+    })
+    ∙ sym (ap (λ (col : ColumnState). record col { learned = column.learned ++ [] }) after)
