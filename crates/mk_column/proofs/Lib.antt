@@ -8,3 +8,7 @@ pub mod TurnOrder
 pub mod NumberOrder
 pub mod ColumnLaws
 pub mod StampLaws
+pub mod ListLaws
+pub mod KeptLaws
+pub mod SendLaws
+pub mod StepLaws
