@@ -12,4 +12,7 @@ pub mod EachMapped
 pub mod FreshClients
 pub mod RoundLaws
 pub mod ListLaws
+pub mod KeptLaws
+pub mod SendLaws
+pub mod StepLaws
 pub mod BeginLaws

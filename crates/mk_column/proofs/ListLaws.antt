@@ -1,5 +1,5 @@
 -- What changing some members of a list, and appending to it, leaves.
-use Rattle.std.proofs.Common.{◌≡◌, Bool, true, false, cond, refl, ap, ◌∙◌, ◌||◌, List, [], ◌∷◌, ◌++◌, Option, Some, None}
+use Rattle.std.proofs.Common.{◌≡◌, Bool, true, false, cond, refl, sym, ap, ◌∙◌, ◌||◌, List, [], ◌∷◌, ◌++◌, Option, Some, None}
 use Rattle.std.specs.Prelude.{find, map, option_map}
 use Rattle.std.specs.List.{list_any}
 use Rattle.mk_lists.specs.Among.{Each}
@@ -24,15 +24,16 @@ module _ {X : Type 0} (p : X → Bool) (f : X → X) where
   find-change q keeps (x ∷ xs) = by_test (p x) refl (find-change q keeps xs)
     where
       by_found : (b : Bool) (y : X) → changed_member x ≡ y → find q (change p f xs) ≡ option_map changed_member (find q xs) → cond b (Some y) (find q (change p f xs)) ≡ option_map changed_member (cond b (Some x) (find q xs))
-      by_found true y e ih = ap Some (λ i. e (~ i))
+      by_found true y e ih = ap Some (sym e)
       by_found false y e ih = ih
+
       by_test : (b : Bool) → p x ≡ b → find q (change p f xs) ≡ option_map changed_member (find q xs) → find q (cond b (f x) x ∷ change p f xs) ≡ option_map changed_member (find q (x ∷ xs))
       by_test true e ih = ap (λ t. cond t (Some (f x)) (find q (change p f xs))) (keeps x) ∙ by_found (q x) (f x) (ap (λ t. cond t (f x) x) e) ih
       by_test false e ih = by_found (q x) x (ap (λ t. cond t (f x) x) e) ih
 
   pub map-change : {Y : Type 0} (q : Y → Bool) (h : Y → Y) (k : X → Y) → ((x : X) → q (k x) ≡ p x) → ((x : X) → k (f x) ≡ h (k x)) → (xs : List X) → map k (change p f xs) ≡ change q h (map k xs)
   map-change q h k tests turns [] = refl
-  map-change q h k tests turns (x ∷ xs) = ap (λ y. y ∷ map k (change p f xs)) (by_test (p x) ∙ ap (λ t. cond t (h (k x)) (k x)) (λ i. tests x (~ i))) ∙ ap (λ ys. cond (q (k x)) (h (k x)) (k x) ∷ ys) (map-change q h k tests turns xs)
+  map-change q h k tests turns (x ∷ xs) = ap (λ y. y ∷ map k (change p f xs)) (by_test (p x) ∙ ap (λ t. cond t (h (k x)) (k x)) (sym (tests x))) ∙ ap (λ ys. cond (q (k x)) (h (k x)) (k x) ∷ ys) (map-change q h k tests turns xs)
     where
       by_test : (b : Bool) → k (cond b (f x) x) ≡ cond b (h (k x)) (k x)
       by_test true = turns x

@@ -45,20 +45,20 @@ use std::marker::Model;
 /// The clients, attempts, takeovers, records, marks and messages of one core number, and the key calls under way.
 #[derive(Drop, Debug)]
 pub struct Column {
-    size: Size,
-    number: u32,
-    version: u32,
-    keys: u32,
-    views: Vec<ReplicaView>,
-    clients: Clients,
-    attempts: Attempts,
-    takeovers: Takeovers,
-    replicas: Vec<Replica>,
-    link: Link,
-    work: Work,
-    learned: Vec<Learned>,
-    settled: Settled,
-    log: Vec<Step>,
+    pub(crate) size: Size,
+    pub(crate) number: u32,
+    pub(crate) version: u32,
+    pub(crate) keys: u32,
+    pub(crate) views: Vec<ReplicaView>,
+    pub(crate) clients: Clients,
+    pub(crate) attempts: Attempts,
+    pub(crate) takeovers: Takeovers,
+    pub(crate) replicas: Vec<Replica>,
+    pub(crate) link: Link,
+    pub(crate) work: Work,
+    pub(crate) learned: Vec<Learned>,
+    pub(crate) settled: Settled,
+    pub(crate) log: Vec<Step>,
 }
 
 impl Model for Column {

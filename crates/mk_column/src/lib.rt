@@ -13,6 +13,8 @@ mod column;
 mod conditions;
 mod learned;
 mod replica;
+mod sending;
+mod stepping;
 mod takeovers;
 mod work;
 
