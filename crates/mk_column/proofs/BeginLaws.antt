@@ -1,8 +1,10 @@
 -- What a column keeps when an attempt begins.
-use Rattle.std.proofs.Common.{◌≡◌, ◌<◌, ◌≤◌, ◌+◌, ◌^◌, ℕ, max, Bool, true, false, cond, refl, sym, subst, ap, ◌∙◌, List, [], ◌∷◌, ◌++◌, Option, Some, None, ◌||◌, ◌&&◌, ◌==◌, arith, inl, inr, ◌⊎◌}
-use Rattle.std.specs.Prelude.{map, find, option_map, slice_get, IsSome}
+use Rattle.std.proofs.Common.{◌≡◌, ◌<◌, ◌≤◌, ◌+◌, ◌^◌, ℕ, zero, suc, get_or, max, Bool, true, false, cond, refl, sym, subst, ap, ◌∙◌, List, [], ◌∷◌, ◌++◌, Option, Some, None, ◌||◌, ◌&&◌, ◌==◌, arith, inl, inr, ◌⊎◌}
+use Rattle.std.specs.Prelude.{map, find, option_map, slice_get, option_copied, Result, Ok, Err, OnOk, IsSome, IsSomeAnd, not, nat_le}
 use Rattle.std.specs.List.{list_any}
 use Rattle.std.specs.Option.{option_or}
+use Rattle.std.specs.Borrow.{Bor}
+use Rattle.std.specs.Result.{is_err}
 use Rattle.std.proofs.lemmas.List.{append-nil, map-append}
 use Rattle.std.proofs.lemmas.List.Folds.{find-append}
 use Rattle.std.proofs.lemmas.Bool.{false≢true}
@@ -14,26 +16,23 @@ use Rattle.mk_txn.specs.declared.TxnId.{TxnId}
 use Rattle.mk_txn.specs.Transactions.{same_id, Transaction}
 use Rattle.mk_txn.proofs.IdOrder.{same_id-tells, same_id-itself}
 use Rattle.mk_quorum.specs.Slots.{passes}
-use Rattle.mk_trim.specs.SettledAttempts.{SettledAttempts, is_settled as is_kept_settled}
+use Rattle.mk_trim.specs.SettledAttempts.{SettledAttempts, AlsoSettles, is_settled as is_kept_settled}
 use Rattle.mk_quorum.specs.Sizes.{members}
 use Rattle.mk_msg.specs.declared.Msg.{Msg}
 use Rattle.mk_column.specs.declared.clients.Client.{Client}
 use Rattle.mk_column.specs.declared.work.Work.{Work as KeptWork}
 use Rattle.mk_column.specs.declared.work.Work.TheVariants.{Idle as KeptIdle, Fetching as KeptFetching, Validating as KeptValidating, Finishing as KeptFinishing}
-use Rattle.mk_column.specs.ClientsByCode.{client_state, client_states, kept_client, change_kept, client_begun}
+use Rattle.mk_column.specs.ClientsByCode.{client_state, client_states, kept_client, change_kept, client_begun, next_of}
 use Rattle.mk_column.specs.ColumnState.{Setting, ColumnState, ClientState, Learning, is_settled, client_of, change_client, is_client}
 use Rattle.mk_column.specs.Replicas.{Held}
-use Rattle.mk_column.specs.Conditions.{is_validate_of}
+use Rattle.mk_column.specs.Conditions.{may_begin, has_seq_left, serves_from, heard_by}
+use Rattle.mk_merge.specs.declared.ReplicaView.{ReplicaView}
 use Rattle.mk_column.specs.declared.Step.TheVariants.{Begin, Unread}
 use Rattle.mk_column.specs.Steps.{begun, next_id, new_attempt, unread_attempt, epoch_of, on_some, beginning, left_unread, stepped, column_after}
 use Rattle.mk_column.specs.AttemptsByCode.{BegunView, as_begun, is_begun, begun_of, states_of}
 use Rattle.mk_column.specs.ColumnByCode.{Kept, IsKept, AttemptFits, ClientFits, WorkFits, has_reading, first_decision, learning_of_kept, column_of}
-use Rattle.mk_column.proofs.ColumnLaws.{find-map, client-found, find-passes, Each-find}
+use Rattle.mk_column.proofs.ColumnLaws.{client-found, find-passes, Each-find, may_begin-found, may_begin-none}
 use Rattle.mk_column.proofs.ListLaws.{Each-turn, find-change, map-change, changed_member}
-
--- the number of a client's next attempt
-abbrev pub next_of : Client → TxnId
-next_of client = record { client = client.number; seq = client.next_seq }
 
 -- the parts of a column once this attempt of this client has begun
 abbrev pub begun_kept : Kept → Client → ℕ → BegunView → Kept
@@ -85,14 +84,24 @@ settled-append : (id : TxnId) (all : List BegunView) (new : BegunView) → begun
     → passes (λ (b : BegunView). is_settled b.state) (begun_of id (all ++ new ∷ [])) ≡ (passes (λ (b : BegunView). is_settled b.state) (begun_of id all) || (is_settled new.state && same_id id new.state.id))
 settled-append id all new none = ap (passes (λ (b : BegunView). is_settled b.state)) (begun-append id all new) ∙ by_test (same_id new.state.id id) refl
   where
+    and_true : (a : Bool) → a ≡ (a && true)
+    and_true true = refl
+    and_true false = refl
+    and_false : (a : Bool) → (a && false) ≡ false
+    and_false true = refl
+    and_false false = refl
+    or_false_right : (a b : Bool) → a ≡ (a || (b && false))
+    or_false_right true b = refl
+    or_false_right false true = refl
+    or_false_right false false = refl
     with_other : (t : Bool) → same_id new.state.id id ≡ t → same_id id new.state.id ≡ t
     with_other t e = grind (arith, nat_tests, e)
     at_none : (o : Option BegunView) → o ≡ None → passes (λ (b : BegunView). is_settled b.state) (option_or o (Some new)) ≡ (passes (λ (b : BegunView). is_settled b.state) o || (is_settled new.state && true))
-    at_none None e = grind nat_tests
+    at_none None e = and_true (is_settled new.state)
     at_none (Some b) e = absurd (none-some b (sym e))
     at_other : (o : Option BegunView) → passes (λ (b : BegunView). is_settled b.state) (option_or o None) ≡ (passes (λ (b : BegunView). is_settled b.state) o || (is_settled new.state && false))
-    at_other None = grind nat_tests
-    at_other (Some b) = grind nat_tests
+    at_other None = sym (and_false (is_settled new.state))
+    at_other (Some b) = or_false_right (is_settled b.state) (is_settled new.state)
     by_test : (t : Bool) → same_id new.state.id id ≡ t
         → passes (λ (b : BegunView). is_settled b.state) (option_or (begun_of id all) (cond t (Some new) None)) ≡ (passes (λ (b : BegunView). is_settled b.state) (begun_of id all) || (is_settled new.state && same_id id new.state.id))
     by_test true e =
@@ -101,9 +110,17 @@ settled-append id all new none = ap (passes (λ (b : BegunView). is_settled b.st
     by_test false e =
         at_other (begun_of id all) ∙ ap (λ t. passes (λ (b : BegunView). is_settled b.state) (begun_of id all) || (is_settled new.state && t)) (sym (with_other false e))
 
+or_again : (a b t : Bool) → (a || (b || t)) ≡ ((a || b) || t)
+or_again true b t = refl
+or_again false b t = refl
+
 reading-append : (n : ℕ) (all : List BegunView) (new : BegunView) → has_reading n (all ++ new ∷ []) ≡ (has_reading n all || (new.state.reading && new.state.id.client == n))
-reading-append n [] new = grind nat_tests
-reading-append n (b ∷ all) new = ap (λ t. (b.state.reading && b.state.id.client == n) || t) (reading-append n all new) ∙ grind nat_tests
+reading-append n [] new = or_off (new.state.reading && new.state.id.client == n)
+  where
+    or_off : (b : Bool) → (b || false) ≡ b
+    or_off true = refl
+    or_off false = refl
+reading-append n (b ∷ all) new = ap (λ t. (b.state.reading && b.state.id.client == n) || t) (reading-append n all new) ∙ or_again (b.state.reading && b.state.id.client == n) (has_reading n all) (new.state.reading && new.state.id.client == n)
 
 -- ---- what each attempt and each client keeps
 
@@ -122,7 +139,7 @@ new-fits f kept ends client new h none upto next =
 -- where no attempt of a client reads, none of it is the last that reads
 none_last : (n k : ℕ) (all : List BegunView) → has_reading n all ≡ false → Each (λ (b : BegunView). b.state.id.client ≡ n → b.state.reading ≡ true → b.state.id.seq + 1 ≡ k) all
 none_last n k [] e = tt
-none_last n k (b ∷ all) e = ((λ same reads. absurd (false≢true (sym (here same reads) ∙ here_not))), none_last n k all rest_not)
+none_last n k (b ∷ all) e = ((λ same reads. absurd (false≢true (sym here_not ∙ here same reads))), none_last n k all rest_not)
   where
     or_left : (a t : Bool) → (a || t) ≡ false → a ≡ false
     or_left true t h = h
@@ -278,3 +295,113 @@ unread-after round kept client clients found turned =
       learned = sym (append-nil column.learned) i;
     })
     ∙ sym (ap (λ (col : ColumnState). record col { learned = column.learned ++ [] }) after)
+
+-- ---- what the conditions of the beginning tell
+
+-- a client of this number that may begin
+pub record MayBegin (kept : Kept) (n : ℕ) (client : Client) : Type 0 where
+  pub number : client.number ≡ n
+  pub found : kept_client client.number kept.clients ≡ Some client
+  pub idle : client.reading ≡ false
+  pub upto : client.next_seq ≤ 16384
+
+pub begin-there : (n : ℕ) (kept : Kept) → may_begin (column_of kept) n ≡ true → IsSome (kept_client n kept.clients)
+begin-there n kept e = by_found (kept_client n kept.clients) refl
+  where
+    by_found : (o : Option Client) → kept_client n kept.clients ≡ o → IsSome o
+    by_found None none = sym (may_begin-none n (column_of kept) kept.clients refl none) ∙ e
+    by_found (Some client) found = refl
+
+pub begin-facts : (f : ℕ) (kept : Kept) (ends : SettledAttempts) (n : ℕ) (client : Client) → IsKept f kept ends → may_begin (column_of kept) n ≡ true → has_seq_left (column_of kept) n ≡ true → kept_client n kept.clients ≡ Some client → MayBegin kept n client
+begin-facts f kept ends n client h may left found =
+    let is : client.number ≡ n = of_number n kept.clients client found in
+    let there : client_of (column_of kept) n ≡ Some (client_state client) = client-found n kept.clients ∙ ap (option_map client_state) found in
+    let not_reads : not client.reading ≡ true = sym (may_begin-found n (column_of kept) kept.clients kept.attempts client refl refl h.clients found) ∙ may in
+    let seq : nat_le client.next_seq 16384 ≡ true = sym (ap (passes (λ (c : ClientState). nat_le c.next_seq 16384)) there) ∙ left in
+    record { number = is; found = ap (λ k. kept_client k kept.clients) is ∙ found; idle = off client.reading not_reads; upto = grind (arith, nat_tests, seq) }
+  where
+    off : (b : Bool) → not b ≡ true → b ≡ false
+    off true e = absurd (false≢true e)
+    off false e = refl
+
+-- clients of whom one is put in its place
+abbrev pub Puts : List Client → List Client → Client → Type 0
+Puts before clients after = (g : Client → Client) → IsSomeAnd (kept_client after.number before) (λ client. g client ≡ after) → clients ≡ change_kept after.number g before
+
+puts-turned : (before clients : List Client) (client after : Client) (g : Client → Client) → after.number ≡ client.number → kept_client client.number before ≡ Some client → g client ≡ after → Puts before clients after → clients ≡ change_kept client.number g before
+puts-turned before clients client after g same found turns puts =
+    subst (λ k. IsSomeAnd (kept_client k before) (λ c. g c ≡ after) → clients ≡ change_kept k g before) same (puts g) (subst (λ o. IsSomeAnd o (λ c. g c ≡ after)) (sym found) turns)
+
+-- ---- the two beginnings
+
+pub begin-kept : (f : ℕ) (kept : Kept) (ends : SettledAttempts) (n : ℕ) (client : Client) (replica epoch : ℕ) (new : BegunView) (after : Client) (clients : List Client) (attempts : List BegunView) → IsKept f kept ends → MayBegin kept n client
+    → new ≡ as_begun f (new_attempt f (next_of client) replica epoch) → after ≡ client_begun epoch true client → Puts kept.clients clients after → attempts ≡ kept.attempts ++ new ∷ []
+    → IsKept f (record kept { clients = clients; attempts = attempts }) ends
+begin-kept f kept ends n client replica epoch new after clients attempts h may is is_after puts pushed =
+    let begun_one = as_begun f (new_attempt f (next_of client) replica epoch) in
+    let same : after.number ≡ client.number = ap (λ (c : Client). c.number) is_after in
+    let turned : clients ≡ change_kept client.number (client_begun epoch true) kept.clients = puts-turned kept.clients clients client after (client_begun epoch true) same may.found (sym is_after) puts in
+    let put : clients ≡ change_kept client.number (λ before. client_begun epoch true client) kept.clients = puts-turned kept.clients clients client after (λ before. client_begun epoch true client) same may.found (sym is_after) puts in
+    subst (λ all. IsKept f (record kept { clients = clients; attempts = all }) ends) (sym (pushed ∙ ap (λ b. kept.attempts ++ b ∷ []) is))
+    (IsKept-begun f kept ends ends client epoch begun_one clients h may.found may.idle may.upto (record { faults = refl; id = refl; txn = refl; validated = refl; decided = refl }) (λ id. or_off (is_kept_settled ends id)) turned put)
+  where
+    or_off : (b : Bool) → b ≡ (b || false)
+    or_off true = refl
+    or_off false = refl
+
+pub begin-state : (round : Setting) (kept : Kept) (n : ℕ) (client : Client) (replica : ℕ) (view : ReplicaView) (new : BegunView) (after : Client) (clients : List Client) (attempts : List BegunView) → MayBegin kept n client
+    → passes (serves_from (heard_by (column_of kept) n)) (slice_get round.views replica) ≡ true → view ≡ get_or round.views replica view
+    → new ≡ as_begun round.faults (new_attempt round.faults (next_of client) replica view.epoch) → after ≡ client_begun view.epoch true client → Puts kept.clients clients after → attempts ≡ kept.attempts ++ new ∷ []
+    → column_of (record kept { clients = clients; attempts = attempts }) ≡ column_after round (column_of kept) (Begin n replica)
+begin-state round kept n client replica view new after clients attempts may serves seen is is_after puts pushed =
+    let same : after.number ≡ client.number = ap (λ (c : Client). c.number) is_after in
+    let turned : clients ≡ change_kept client.number (client_begun view.epoch true) kept.clients = puts-turned kept.clients clients client after (client_begun view.epoch true) same may.found (sym is_after) puts in
+    ap (λ all. column_of (record kept { clients = clients; attempts = all })) (pushed ∙ ap (λ b. kept.attempts ++ b ∷ []) is)
+    ∙ begin-after round kept client replica view.epoch clients may.found (epoch-at (serves_from (heard_by (column_of kept) n)) round.views replica view serves seen) turned
+    ∙ ap (λ k. column_after round (column_of kept) (Begin k replica)) may.number
+  where
+    epoch-at : (test : ReplicaView → Bool) (views : List ReplicaView) (r : ℕ) (v : ReplicaView) → passes test (slice_get views r) ≡ true → v ≡ get_or views r v → epoch_of (slice_get views r) ≡ v.epoch
+    epoch-at test [] r v passed e = absurd (false≢true passed)
+    epoch-at test (first ∷ views) zero v passed e = ap (λ (w : ReplicaView). w.epoch) (sym e)
+    epoch-at test (first ∷ views) (suc r) v passed e = epoch-at test views r v passed e
+
+pub unread-kept : (f : ℕ) (kept : Kept) (ends later : SettledAttempts) (n : ℕ) (client : Client) (new : BegunView) (after : Client) (clients : List Client) (attempts : List BegunView) → IsKept f kept ends → MayBegin kept n client
+    → new ≡ as_begun f (unread_attempt f (next_of client)) → after ≡ client_begun 0 false client → Puts kept.clients clients after → attempts ≡ kept.attempts ++ new ∷ [] → AlsoSettles ends later (next_of client)
+    → IsKept f (record kept { clients = clients; attempts = attempts }) later
+unread-kept f kept ends later n client new after clients attempts h may is is_after puts pushed settles =
+    let begun_one = as_begun f (unread_attempt f (next_of client)) in
+    let same : after.number ≡ client.number = ap (λ (c : Client). c.number) is_after in
+    let turned : clients ≡ change_kept client.number (client_begun 0 false) kept.clients = puts-turned kept.clients clients client after (client_begun 0 false) same may.found (sym is_after) puts in
+    let put : clients ≡ change_kept client.number (λ before. client_begun 0 false client) kept.clients = puts-turned kept.clients clients client after (λ before. client_begun 0 false client) same may.found (sym is_after) puts in
+    subst (λ all. IsKept f (record kept { clients = clients; attempts = all }) later) (sym (pushed ∙ ap (λ b. kept.attempts ++ b ∷ []) is))
+    (IsKept-begun f kept ends later client 0 begun_one clients h may.found may.idle may.upto (record { faults = refl; id = refl; txn = refl; validated = refl; decided = refl })
+      (λ id. settles id ∙ ap (λ b. is_kept_settled ends id || b) (turned_about (next_of client) id)) turned put)
+  where
+    turned_about : (a b : TxnId) → same_id a b ≡ same_id b a
+    turned_about a b = by_test (same_id a b) (same_id b a) refl refl
+      where
+        by_test : (s t : Bool) → same_id a b ≡ s → same_id b a ≡ t → s ≡ t
+        by_test true true e k = refl
+        by_test false false e k = refl
+        by_test true false e k = grind (arith, nat_tests, e, k)
+        by_test false true e k = grind (arith, nat_tests, e, k)
+
+pub unread-state : (round : Setting) (kept : Kept) (n : ℕ) (client : Client) (new : BegunView) (after : Client) (clients : List Client) (attempts : List BegunView) → MayBegin kept n client
+    → new ≡ as_begun round.faults (unread_attempt round.faults (next_of client)) → after ≡ client_begun 0 false client → Puts kept.clients clients after → attempts ≡ kept.attempts ++ new ∷ []
+    → column_of (record kept { clients = clients; attempts = attempts }) ≡ column_after round (column_of kept) (Unread n)
+unread-state round kept n client new after clients attempts may is is_after puts pushed =
+    let same : after.number ≡ client.number = ap (λ (c : Client). c.number) is_after in
+    let turned : clients ≡ change_kept client.number (client_begun 0 false) kept.clients = puts-turned kept.clients clients client after (client_begun 0 false) same may.found (sym is_after) puts in
+    ap (λ all. column_of (record kept { clients = clients; attempts = all })) (pushed ∙ ap (λ b. kept.attempts ++ b ∷ []) is)
+    ∙ unread-after round kept client clients may.found turned
+    ∙ ap (λ k. column_after round (column_of kept) (Unread k)) may.number
+
+-- what was copied is there
+pub some-of-copied : {X : Type 0} (o : Option (Bor X)) → IsSome (option_copied o) → IsSome o
+some-of-copied None h = h
+some-of-copied (Some x) h = refl
+
+-- what a call ensures where it answers Ok, it ensures where its answer is no error
+pub ensured-ok : {T E : Type 0} (r : Result T E) (P : Type 0) → is_err r ≡ false → OnOk r P → P
+ensured-ok (Ok x) P e h = h
+ensured-ok (Err x) P e h = absurd (false≢true (sym e))

@@ -54,3 +54,21 @@ map-take_next f zero [] d h = absurd (omega arith)
 map-take_next f zero (x ∷ xs) d h = refl
 map-take_next f (suc n) [] d h = absurd (omega arith)
 map-take_next f (suc n) (x ∷ xs) d h = ap (λ ys. f x ∷ ys) (map-take_next f n xs d (omega arith))
+
+-- lists with one more at the end are equal only where the lists before are
+pub fronts-same : {X : Type 0} (xs ys : List X) (x y : X) → xs ++ x ∷ [] ≡ ys ++ y ∷ [] → xs ≡ ys
+fronts-same [] [] x y e = refl
+fronts-same {X = X} [] (z ∷ ys) x y e = absurd (not_end ys (cc e))
+  where
+    not_end : (all : List X) → [] ≡ all ++ y ∷ [] → ⊥
+    not_end [] k = cc k
+    not_end (w ∷ all) k = cc k
+fronts-same {X = X} (z ∷ xs) [] x y e = absurd (not_end xs (cc e))
+  where
+    not_end : (all : List X) → all ++ x ∷ [] ≡ [] → ⊥
+    not_end [] k = cc k
+    not_end (w ∷ all) k = cc k
+fronts-same (z ∷ xs) (w ∷ ys) x y e =
+    let first : z ≡ w = cc e in
+    let rest : xs ++ x ∷ [] ≡ ys ++ y ∷ [] = cc e in
+    ap (λ v. v ∷ xs) first ∙ ap (λ vs. w ∷ vs) (fronts-same xs ys x y rest)

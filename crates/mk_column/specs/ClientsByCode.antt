@@ -2,6 +2,7 @@
 use Rattle.std.specs.Prelude.{ℕ, ◌+◌, max, Bool, ◌==◌, false, List, Option, find, map, option_map, option_copied}
 use Rattle.std.specs.Borrow.{Bor}
 use Rattle.mk_lists.specs.Changed.{change}
+use Rattle.mk_txn.specs.declared.TxnId.{TxnId}
 use Rattle.mk_column.specs.declared.clients.Client.{Client}
 use Rattle.mk_column.specs.ColumnState.{ClientState}
 
@@ -12,6 +13,10 @@ fresh_client number = record { number = number; last_time = 0; next_seq = 1; hea
 -- a client none of whose attempts reads
 abbrev pub not_reading : Client → Client
 not_reading client = record client { reading = false }
+
+-- the number of a client's next attempt
+abbrev pub next_of : Client → TxnId
+next_of client = record { client = client.number; seq = client.next_seq }
 
 -- a client that has begun one more attempt, in this epoch, and whether it reads
 abbrev pub client_begun : ℕ → Bool → Client → Client

@@ -1,5 +1,5 @@
 //! The attempts of a column, found by their numbers.
-ghost use Rattle.std.specs.Prelude.{◌≡◌, ◌<◌, ◌∷◌, ◌++◌, [], true, false, None, Some, length, map, slice_index_or, slice_set, option_copied, IsSome, IsSomeAnd, OnOk, OnErr};
+ghost use Rattle.std.specs.Prelude.{◌≡◌, ◌<◌, List, ◌∷◌, ◌++◌, [], true, false, None, Some, length, map, slice_index_or, slice_set, option_copied, IsSome, IsSomeAnd, OnOk, OnErr};
 ghost use Rattle.std.specs.Option.{option_or};
 ghost use Rattle.mk_quorum.specs.Sizes.{members};
 ghost use Rattle.mk_coord.specs.declared.Ruling.TheVariants.{Propose};
@@ -68,6 +68,15 @@ impl Attempts {
             unreachable!();
         }
         Ok(())
+    }
+
+    /// Takes the last attempt away.
+    pub(crate) fn pop(&mut self)
+        ensures { (all : List OneBegun) (begun : OneBegun) → self.old ≡ all ++ begun ∷ [] → self.new ≡ all }
+    {
+        if let Some(begun) = self.items.pop() {
+            self.places.remove(&begun.id());
+        }
     }
 
     // Where the attempt of this number stands. To change it there is to change it in the list.

@@ -7,6 +7,7 @@ ghost use Rattle.mk_txn.specs.Transactions.{are_distinct as keys_differ, write_k
 
 mod attempts;
 mod backup;
+mod beginning;
 mod begun;
 mod clients;
 mod column;
