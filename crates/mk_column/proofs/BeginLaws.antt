@@ -328,7 +328,7 @@ begin-facts f kept ends n client h may left found =
 abbrev pub Puts : List Client → List Client → Client → Type 0
 Puts before clients after = (g : Client → Client) → IsSomeAnd (kept_client after.number before) (λ client. g client ≡ after) → clients ≡ change_kept after.number g before
 
-puts-turned : (before clients : List Client) (client after : Client) (g : Client → Client) → after.number ≡ client.number → kept_client client.number before ≡ Some client → g client ≡ after → Puts before clients after → clients ≡ change_kept client.number g before
+pub puts-turned : (before clients : List Client) (client after : Client) (g : Client → Client) → after.number ≡ client.number → kept_client client.number before ≡ Some client → g client ≡ after → Puts before clients after → clients ≡ change_kept client.number g before
 puts-turned before clients client after g same found turns puts =
     subst (λ k. IsSomeAnd (kept_client k before) (λ c. g c ≡ after) → clients ≡ change_kept k g before) same (puts g) (subst (λ o. IsSomeAnd o (λ c. g c ≡ after)) (sym found) turns)
 

@@ -16,3 +16,4 @@ pub mod KeptLaws
 pub mod SendLaws
 pub mod StepLaws
 pub mod BeginLaws
+pub mod StampedLaws

@@ -23,6 +23,10 @@ abbrev pub client_begun : ℕ → Bool → Client → Client
 client_begun epoch reading client =
     record client { next_seq = client.next_seq + 1; heard = max client.heard epoch; reading = reading }
 
+-- a client whose last stamp has this time, and none of whose attempts reads
+abbrev pub client_stamped : ℕ → Client → Client
+client_stamped time client = record client { last_time = time; reading = false }
+
 -- the client's number
 abbrev pub number_of : Client → ℕ
 number_of client = client.number

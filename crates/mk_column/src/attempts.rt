@@ -95,7 +95,8 @@ impl Attempts {
     /// Reading ends, and the transaction is made.
     pub(crate) fn stamp(&mut self, id: TxnId, txn: Txn)
         requires { IsSome (begun_of id self.old) }
-        ensures { self.new ≡ change_begun id (on_state (λ a. record a { reading = false; txn = Some txn })) self.old }
+        ensures changed { self.new ≡ change_begun id (on_state (λ a. record a { reading = false; txn = Some txn })) self.old }
+        ensures as_found { (f : OneBegun → OneBegun) (before : OneBegun) → begun_of id self.old ≡ Some before → f before ≡ on_state (λ a. record a { reading = false; txn = Some txn }) before → self.new ≡ change_begun id f self.old }
     {
         let place = self.place(id);
         self.items[place].stamp(txn);

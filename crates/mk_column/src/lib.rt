@@ -15,6 +15,7 @@ mod conditions;
 mod learned;
 mod replica;
 mod sending;
+mod stamping;
 mod stepping;
 mod takeovers;
 mod work;
@@ -125,6 +126,12 @@ impl Writes {
         ensures { result ≡ (length self.now == 0) }
     {
         self.items.len() == 0
+    }
+
+    pub(crate) fn as_slice(&self) -> &[WriteItem]
+        ensures { result.now ≡ self.now }
+    {
+        self.items.as_slice()
     }
 
     // Whether each key is one of so many.
