@@ -17,3 +17,4 @@ pub mod SendLaws
 pub mod StepLaws
 pub mod BeginLaws
 pub mod StampedLaws
+pub mod AnswerLaws

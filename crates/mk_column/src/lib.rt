@@ -5,6 +5,7 @@ ghost use Rattle.std.specs.Prelude.{◌≡◌, ◌==◌};
 ghost use Rattle.std.specs.List.{list_any};
 ghost use Rattle.mk_txn.specs.Transactions.{are_distinct as keys_differ, write_keys};
 
+mod answering;
 mod attempts;
 mod backup;
 mod beginning;
