@@ -2,7 +2,7 @@
 use Rattle.std.proofs.Common.{◌≡◌, ◌<◌, ℕ, zero, suc, Bool, true, false, refl, sym, subst, ap, ◌∙◌, List, [], ◌∷◌, ◌++◌, Option, Some, None, ◌||◌, length, get_or, arith}
 use Rattle.std.specs.Prelude.{find, map, option_map, slice_set, slice_index_or, IsSome}
 use Rattle.std.specs.List.{list_any}
-use Rattle.std.proofs.lemmas.List.{map-set}
+use Rattle.std.proofs.lemmas.List.{map-set, append-nil}
 use Rattle.std.proofs.lemmas.List.Folds.{list_any-append}
 use Rattle.std.proofs.Math.Seq.{map-set_same}
 use Rattle.std.proofs.lemmas.Bool.{false≢true}
@@ -21,19 +21,21 @@ use Rattle.mk_quorum.specs.Sizes.{members}
 use Rattle.mk_trim.specs.SettledAttempts.{SettledAttempts}
 use Rattle.mk_column.specs.declared.work.Work.{Work as KeptWork}
 use Rattle.mk_column.specs.declared.work.Work.TheVariants.{Idle as KeptIdle, Fetching as KeptFetching, Validating as KeptValidating}
-use Rattle.mk_column.specs.ColumnState.{ColumnState, Learning, is_attempt, entries_at}
+use Rattle.mk_column.specs.ColumnState.{Setting, ColumnState, AttemptState, Learning, is_attempt, entries_at}
+use Rattle.mk_column.specs.ColumnState.Work.{Fetching}
+use Rattle.mk_column.specs.declared.Step.TheVariants.{Read}
 use Rattle.mk_column.specs.Replicas.{Held}
 use Rattle.mk_column.specs.HeldByCode.{work_of}
 use Rattle.mk_column.specs.Conditions.{is_validate_of}
-use Rattle.mk_column.specs.Steps.{answered, validated, voted_msg}
+use Rattle.mk_column.specs.Steps.{answered, validated, voted_msg, on_some, column_after}
 use Rattle.mk_column.specs.AttemptsByCode.{BegunView, begun_of, on_state, states_of}
 use Rattle.mk_column.specs.ColumnByCode.{Kept, IsKept, AttemptFits, WorkFits, learning_of_kept, column_of}
 use Rattle.mk_column.proofs.ColumnLaws.{attempt-found}
 use Rattle.mk_column.proofs.KeptLaws.{IsGentle}
 
--- key calls that are over leave nothing to be kept of them
-pub IsKept-idle : (f : ℕ) (kept : Kept) (ends : SettledAttempts) → IsKept f kept ends → IsKept f (record kept { work = KeptIdle }) ends
-IsKept-idle f kept ends h =
+-- key calls that begin leave what the column keeps, where what is to be kept of them is there
+pub IsKept-worked : (f : ℕ) (kept : Kept) (ends : SettledAttempts) (work : KeptWork) → IsKept f kept ends → WorkFits (members f) kept.attempts kept.replicas work → IsKept f (record kept { work = work }) ends
+IsKept-worked f kept ends work h fits =
     record {
       replicas = h.replicas;
       attempts = h.attempts;
@@ -44,8 +46,12 @@ IsKept-idle f kept ends h =
       decisions = h.decisions;
       validates = h.validates;
       homes = h.homes;
-      work = tt;
+      work = fits;
     }
+
+-- key calls that are over leave nothing to be kept of them
+pub IsKept-idle : (f : ℕ) (kept : Kept) (ends : SettledAttempts) → IsKept f kept ends → IsKept f (record kept { work = KeptIdle }) ends
+IsKept-idle f kept ends h = IsKept-worked f kept ends KeptIdle h tt
 
 -- one more read leaves what is kept of an attempt
 pub read-gentle : (item : ReadItem) → IsGentle (on_state (λ a. record a { reads = a.reads ++ item ∷ [] }))
@@ -138,3 +144,12 @@ attempt-there id all h = subst IsSome (sym (attempt-found id all)) (from (begun_
     from : (o : Option BegunView) → IsSome o → IsSome (option_map (λ (b : BegunView). b.state) o)
     from None k = absurd (false≢true k)
     from (Some b) k = refl
+
+-- the key's value is asked for
+pub read-state : (round : Setting) (kept : Kept) (id : TxnId) (key : ℕ) (begun : BegunView) (replica : ℕ) → begun_of id kept.attempts ≡ Some begun → replica ≡ begun.state.replica
+    → column_of (record kept { work = KeptFetching id replica key }) ≡ column_after round (column_of kept) (Read id key)
+read-state round kept id key begun replica found is =
+    let column = column_of kept in
+    let there : find (is_attempt id) column.attempts ≡ Some begun.state = attempt-found id kept.attempts ∙ ap (option_map (λ (b : BegunView). b.state)) found in
+    (λ i. record column { work = Fetching id (is i) key; learned = sym (append-nil column.learned) i })
+    ∙ sym (ap (λ (o : Option AttemptState). let after = on_some (λ a col. record col { work = Fetching id a.replica key }) o column in record after { learned = column.learned ++ [] }) there)

@@ -1,8 +1,8 @@
-//! The wanted key call is answered.
+//! Key calls are asked for and answered.
 ghost use Rattle.std.specs.Prelude.{◌≡◌, ◌<◌, true, None, Some, OnOk, OnErr, IsSome};
 ghost use Rattle.mk_cell.specs.Acts.{answer_fits};
 ghost use Rattle.mk_cell.specs.declared.Act.TheVariants.{Get};
-ghost use Rattle.mk_column.specs.declared.Step.TheVariants.{Key};
+ghost use Rattle.mk_column.specs.declared.Step.TheVariants.{Key, Read};
 ghost use Rattle.mk_column.specs.ColumnState.{attempt_of};
 ghost use Rattle.mk_column.specs.Conditions.{blocked as blocked_by};
 ghost use Rattle.mk_column.specs.Steps.{column_after, fetched, answered, is_validating, is_at_end};
@@ -16,6 +16,15 @@ use mk_msg::{Body, Msg};
 use mk_txn::{NoMemory, ReadItem, TxnId};
 
 impl Column {
+    // The attempt asks for the key's value at its replica.
+    pub(crate) fn read(&mut self, id: TxnId, key: u32)
+        requires { blocked_by self.old.setting self.old.state (Read id key) ≡ None }
+        ensures { self.new ≡ record self.old { state = column_after self.old.setting self.old.state (Read id key) } }
+    {
+        let replica = self.attempts.find(id).unwrap().shown().replica;
+        self.work = Work::Fetching { id, replica, key };
+    }
+
     // The wanted key call is answered.
     pub(crate) fn answer_key(&mut self, call: &KeyCall, answer: Answer) -> Result<(), NoMemory>
         requires { blocked_by self.old.setting self.old.state (Key call.now answer) ≡ None }
