@@ -18,3 +18,4 @@ pub mod StepLaws
 pub mod BeginLaws
 pub mod StampedLaws
 pub mod AnswerLaws
+pub mod TakeLaws

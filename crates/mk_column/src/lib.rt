@@ -19,6 +19,7 @@ mod sending;
 mod stamping;
 mod stepping;
 mod takeovers;
+mod taking;
 mod work;
 
 pub use column::Column;
