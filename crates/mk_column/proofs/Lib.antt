@@ -12,3 +12,5 @@ pub mod ListLaws
 pub mod KeptLaws
 pub mod SendLaws
 pub mod StepLaws
+pub mod MarkLaws
+pub mod KeptSteps
