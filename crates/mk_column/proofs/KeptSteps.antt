@@ -7,6 +7,7 @@ use Rattle.std.proofs.lemmas.Bool.{false≢true}
 use Rattle.std.proofs.lemmas.Bool.Decides.{nat_tests}
 use Rattle.std.proofs.lemmas.List.Folds.{list_any-append, find-append}
 use Rattle.mk_lists.specs.Among.{Each, Each-append, Each-weaker}
+use Rattle.mk_lists.specs.Changed.{Each-change}
 use Rattle.mk_txn.specs.declared.TxnId.{TxnId}
 use Rattle.mk_txn.specs.declared.Outcome.{Outcome}
 use Rattle.mk_txn.specs.Transactions.{same_id}
@@ -20,12 +21,13 @@ use Rattle.mk_quorum.specs.Sizes.{members}
 use Rattle.mk_quorum.specs.Slots.{passes}
 use Rattle.mk_trim.specs.SettledAttempts.{SettledAttempts, AlsoSettles, is_settled as is_kept_settled}
 use Rattle.mk_column.specs.declared.learned.Learned.{Learned}
-use Rattle.mk_column.specs.ColumnState.{AttemptState, Learning, Way, is_settled, to_all, numbers_from}
+use Rattle.mk_column.specs.ColumnState.{AttemptState, TakeoverOf, is_takeover, Learning, Way, is_settled, to_all, numbers_from}
 use Rattle.mk_column.specs.Conditions.{is_validate_of}
 use Rattle.mk_column.specs.Learnings.{learning, is_decision_of, is_finishing}
 use Rattle.mk_column.specs.Steps.{proposing, taught}
 use Rattle.mk_column.specs.AttemptsByCode.{BegunView, begun_of, is_begun, change_begun, on_state}
-use Rattle.mk_column.specs.TakeoversByCode.{BackupView}
+use Rattle.mk_column.specs.TakeoversByCode.{BackupView, change_backup, on_backup}
+use Rattle.mk_column.specs.declared.backup.Turn.{Turn}
 use Rattle.mk_column.specs.ColumnByCode.{Kept, AttemptFits, IsKept, first_decision, learning_of_kept}
 use Rattle.mk_column.proofs.ColumnLaws.{find-passes}
 use Rattle.mk_column.proofs.ListLaws.{changed_member}
@@ -168,7 +170,7 @@ other-kind epoch id view (MovedBody moved) h q r = refl
 pub proposing-gentle : (outcome : Outcome) → IsGentle (on_state (proposing outcome))
 proposing-gentle outcome = record { place = record { id = λ b. refl; reading = λ b. refl }; faults = λ b. refl; validated = λ b. refl; decided = λ b. refl; txn = λ b. refl }
 
-taught-gentle : (outcome : Outcome) → IsGentle (on_state (taught outcome))
+pub taught-gentle : (outcome : Outcome) → IsGentle (on_state (taught outcome))
 taught-gentle outcome = record { place = record { id = λ b. refl; reading = λ b. refl }; faults = λ b. refl; validated = λ b. refl; decided = λ b. refl; txn = λ b. refl }
 
 -- an attempt that has learned is settled
@@ -186,9 +188,11 @@ settles-found id outcome all q known = ap (passes (λ (b : BegunView). is_settle
   where
     turned : BegunView → BegunView
     turned b = changed_member (is_begun id) (on_state (taught outcome)) b
+
     here : (b : BegunView) (t : Bool) → is_begun id b ≡ t → is_settled (turned b).state ≡ (is_settled b.state || t)
     here b true e = ap (λ t. is_settled (cond t (on_state (taught outcome) b) b).state) e ∙ taught-settled outcome b.state ∙ sym (or_true (is_settled b.state))
     here b false e = ap (λ t. is_settled (cond t (on_state (taught outcome) b) b).state) e ∙ sym (or_false (is_settled b.state))
+
     by_found : (o : Option BegunView) → begun_of q all ≡ o → passes (λ (b : BegunView). is_settled b.state) (option_map turned o) ≡ (passes (λ (b : BegunView). is_settled b.state) o || same_id id q)
     by_found None e = sym (unknown_apart id q all e known)
     by_found (Some b) e =
@@ -210,7 +214,7 @@ IsKept-settles f id outcome kept old ends attempts is settles known h =
       other = λ b e fits. fits;
       sent = h.sent;
       settled = λ q. settles q ∙ ap (λ b. b || same_id id q) (h.settled q) ∙ or-assoc (q.seq == 0) (passes (λ (b : BegunView). is_settled b.state) (begun_of q kept.attempts)) (same_id id q)
-      ∙ ap (λ b. (q.seq == 0) || b) (sym (settles-found id outcome kept.attempts q known));
+          ∙ ap (λ b. (q.seq == 0) || b) (sym (settles-found id outcome kept.attempts q known));
       decisions = h.decisions;
       validates = h.validates;
     })
@@ -257,16 +261,54 @@ IsKept-decides f id way outcome kept ends attempts learned is more by known h =
     λ b e fits. record { faults = fits.faults; validated = fits.validated; decided = fits.decided ∙ sym (apart b.state.id (sym (same-back b.state.id id) ∙ e)); named = fits.named; unstamped = fits.unstamped; seq = fits.seq } in
     IsKept-turned id g (deciding-place outcome) f kept ends ends attempts kept.link learned is
     (subst (λ all. Turned id g (deciding-place outcome) f kept kept.link all ends) (sym more)
-      (record {
-        here = here;
-        other = other;
-        sent = h.sent;
-        settled = settled-turned id g (deciding-place outcome) ends kept.attempts (λ b. refl) h.settled;
-        decisions = λ q none. apart q (unknown_apart id q kept.attempts none known) ∙ h.decisions q none;
-        validates = h.validates;
-      }))
+    (record {
+      here = here;
+      other = other;
+      sent = h.sent;
+      settled = settled-turned id g (deciding-place outcome) ends kept.attempts (λ b. refl) h.settled;
+      decisions = λ q none. apart q (unknown_apart id q kept.attempts none known) ∙ h.decisions q none;
+      validates = h.validates;
+    }))
     h
   where
     and_true : (b : Bool) → (b && not false) ≡ b
     and_true true = refl
     and_true false = refl
+
+-- ---- a message that is not a Validate is sent to all
+
+pub IsKept-tells : (f epoch : ℕ) (id : TxnId) (view : ℕ) (body : Body) (kept : Kept) (ends : SettledAttempts) (link : List Msg) → link ≡ kept.link ++ to_all f epoch id view body → (kind_of body ≡ Validate → ⊥) → IsKept f kept ends
+    → IsKept f (record kept { link = link }) ends
+IsKept-tells f epoch id view body kept ends link is other h =
+    IsKept-sends f kept ends link (to_all f epoch id view body) is (to_all-quiet f epoch id view body (other-kind epoch id view body other)) (to_all-there f epoch id view body) h
+
+-- ---- takeovers are changed, or one is joined
+
+pub IsKept-takeovers : (f : ℕ) (kept : Kept) (ends : SettledAttempts) (takeovers : List BackupView) → Each (λ backup. backup.faults ≡ f) takeovers → IsKept f kept ends → IsKept f (record kept { takeovers = takeovers }) ends
+IsKept-takeovers f kept ends takeovers made h =
+    record {
+      replicas = h.replicas;
+      attempts = h.attempts;
+      takeovers = made;
+      clients = h.clients;
+      sent = h.sent;
+      settled = h.settled;
+      decisions = h.decisions;
+      validates = h.validates;
+      homes = h.homes;
+      work = h.work;
+    }
+
+pub IsKept-takeover_changed : (f : ℕ) (turn : Turn) (g : TakeoverOf → TakeoverOf) (kept : Kept) (ends : SettledAttempts) (takeovers : List BackupView) → takeovers ≡ change_backup turn (on_backup g) kept.takeovers → IsKept f kept ends
+    → IsKept f (record kept { takeovers = takeovers }) ends
+IsKept-takeover_changed f turn g kept ends takeovers is h =
+    IsKept-takeovers f kept ends takeovers
+    (subst (Each (λ (backup : BackupView). backup.faults ≡ f)) (sym is)
+      (Each-change (λ (backup : BackupView). is_takeover turn.id turn.view backup.of) (on_backup g) (λ backup. backup.faults ≡ f) (λ backup t made. made) kept.takeovers h.takeovers))
+    h
+
+pub IsKept-takes_over : (f : ℕ) (backup : BackupView) (kept : Kept) (ends : SettledAttempts) (takeovers : List BackupView) → takeovers ≡ kept.takeovers ++ backup ∷ [] → backup.faults ≡ f → IsKept f kept ends
+    → IsKept f (record kept { takeovers = takeovers }) ends
+IsKept-takes_over f backup kept ends takeovers is made h =
+    IsKept-takeovers f kept ends takeovers
+    (subst (Each (λ (b : BackupView). b.faults ≡ f)) (sym is) (Each-append (λ (b : BackupView). b.faults ≡ f) kept.takeovers (backup ∷ []) h.takeovers (made, tt))) h

@@ -12,5 +12,6 @@ pub mod ListLaws
 pub mod KeptLaws
 pub mod SendLaws
 pub mod StepLaws
+pub mod TakeoverLaws
 pub mod MarkLaws
 pub mod KeptSteps

@@ -17,8 +17,10 @@ use Rattle.mk_quorum.specs.Slots.{passes}
 use Rattle.mk_column.specs.declared.Attempt.{Attempt}
 use Rattle.mk_column.specs.ColumnState.{ColumnState, Setting, AttemptState, Learning, is_attempt, attempt_of, change_attempt, shown, send, to_all, mark_sent}
 use Rattle.mk_column.specs.declared.Step.{Step}
-use Rattle.mk_column.specs.declared.Step.TheVariants.{Stop, Again, Validate}
-use Rattle.mk_column.specs.Steps.{column_after, on_some, sent_again}
+use Rattle.mk_column.specs.declared.Step.TheVariants.{Stop, Again, Validate, Rule}
+use Rattle.mk_column.specs.ColumnState.Way.{ByVotes, ByAccepts}
+use Rattle.mk_column.specs.Learnings.{learning, by_ruling, by_rule}
+use Rattle.mk_column.specs.Steps.{column_after, on_some, sent_again, ruled, taught, proposing, with_learning}
 use Rattle.mk_column.specs.ColumnByCode.{ColumnView, AttemptFits}
 use Rattle.mk_column.specs.Conditions.{blocked, is_stamped}
 use Rattle.mk_column.specs.AttemptsByCode.{BegunView, begun_of, is_begun, states_of, change_begun, on_state}
@@ -32,7 +34,7 @@ pub there-from_passes : {X : Type 0} (test : X → Bool) (o : Option X) → pass
 there-from_passes test None e = absurd (cc e)
 there-from_passes test (Some x) e = refl
 
-some-from_map : {X Y : Type 0} (f : X → Y) (o : Option X) → IsSome (option_map f o) → IsSome o
+pub some-from_map : {X Y : Type 0} (f : X → Y) (o : Option X) → IsSome (option_map f o) → IsSome o
 some-from_map f None e = absurd (cc e)
 some-from_map f (Some x) e = refl
 
@@ -134,3 +136,35 @@ ruling-there f link learned id all r h is = by_found (begun_of id all) refl (sub
     by_found : (o : Option BegunView) → begun_of id all ≡ o → IsSomeAnd (option_map (λ (b : BegunView). b.state) o) (λ a. ruling f a.coord ≡ r) → IsSomeAnd o (λ begun. ruling begun.faults begun.state.coord ≡ r)
     by_found None e given = given
     by_found (Some b) e given = ap (λ n. ruling n b.state.coord) (Each-find (AttemptFits f link learned) (is_begun id) all b h e).faults ∙ given
+
+-- ---- what is done by a ruling
+
+abbrev pub ruled_by : ℕ → ℕ → TxnId → Ruling → ColumnState → ColumnState
+ruled_by f epoch id (Fast outcome) column = send (to_all f epoch id 0 (Decide outcome)) (with_learning (learning id ByVotes outcome) (change_attempt id (taught outcome) column))
+ruled_by f epoch id (Learned outcome) column = send (to_all f epoch id 0 (Decide outcome)) (with_learning (learning id ByAccepts outcome) (change_attempt id (taught outcome) column))
+ruled_by f epoch id (Propose outcome) column = change_attempt id (proposing outcome) (send (to_all f epoch id 0 (Accept outcome)) column)
+ruled_by f epoch id (Short k) column = column
+ruled_by f epoch id (Unaccepted k) column = column
+
+ruled_by-is : (f : ℕ) (id : TxnId) (a : AttemptState) (r : Ruling) (column : ColumnState) → ruled_by f a.epoch id r column ≡ record (ruled f (record a { id = id }) r column) { learned = column.learned ++ by_ruling id r }
+ruled_by-is f id a (Fast outcome) column = refl
+ruled_by-is f id a (Learned outcome) column = refl
+ruled_by-is f id a (Propose outcome) column = none-learned (ruled_by f a.epoch id (Propose outcome) column) column.learned
+ruled_by-is f id a (Short k) column = none-learned column column.learned
+ruled_by-is f id a (Unaccepted k) column = none-learned column column.learned
+
+pub rule-there : (round : Setting) (column : ColumnState) (id : TxnId) → blocked round column (Rule id) ≡ None → passes is_stamped (attempt_of column id) ≡ true
+rule-there round column id e = (enabled round column (Rule id) e).1.0
+
+pub rule-state : (round : Setting) (column : ColumnState) (id : TxnId) (s : Attempt) (r : Ruling) → option_map shown (attempt_of column id) ≡ Some s → option_map (λ a. ruling round.faults a.coord) (attempt_of column id) ≡ Some r
+    → ruled_by round.faults s.epoch id r column ≡ column_after round column (Rule id)
+rule-state round column id s r found is = by_found (attempt_of column id) refl found is
+  where
+    by_found : (o : Option AttemptState) → attempt_of column id ≡ o → option_map shown o ≡ Some s → option_map (λ a. ruling round.faults a.coord) o ≡ Some r
+        → ruled_by round.faults s.epoch id r column ≡ record (on_some (λ (a : AttemptState) col. ruled round.faults a (ruling round.faults a.coord) col) o column) { learned = column.learned ++ by_rule round id o }
+    by_found None there e d = absurd (none-some s e)
+    by_found (Some a) there e d =
+        ap (λ (x : Attempt). ruled_by round.faults x.epoch id r column) (sym (same_Some (shown a) s e))
+        ∙ ruled_by-is round.faults id a r column
+        ∙ ap (λ i. record (ruled round.faults (record a { id = i }) r column) { learned = column.learned ++ by_ruling id r }) (sym (attempt-named column id a there))
+        ∙ ap (λ x. record (ruled round.faults a x column) { learned = column.learned ++ by_ruling id x }) (sym (same_Some (ruling round.faults a.coord) r d))

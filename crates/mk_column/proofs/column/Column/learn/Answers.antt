@@ -11,7 +11,7 @@ use Rattle.mk_column.specs.Steps.{taught, with_learning}
 use Rattle.mk_column.specs.AttemptsByCode.{begun_of, states_of, on_state, change_begun}
 use Rattle.mk_column.specs.ColumnByCode.{ColumnView, learning_of_kept, way_of}
 use Rattle.mk_column.proofs.KeptLaws.{some-after}
-use Rattle.mk_column.proofs.KeptSteps.{IsKept-settles, IsKept-decides, IsKept-sends, taught-gentle, to_all-quiet, to_all-there, other-kind}
+use Rattle.mk_column.proofs.KeptSteps.{IsKept-settles, IsKept-decides, IsKept-tells, taught-gentle}
 use Rattle.mk_column.proofs.StepLaws.{begun-there, states-kept, states-changed}
 use Rattle.mk_column.proofs.column.Column.learn.Goals as goal
 
@@ -32,8 +32,7 @@ invariant_of-self-2 c =
     let more : map learning_of_kept c.push.new.self.items ≡ map learning_of_kept c.self.inside.learned.items ++ learning c.args.id (way_of c.args.way) c.args.outcome ∷ [] = ap (map learning_of_kept) pushed ∙ map-append learning_of_kept c.self.inside.learned.items _ in
     let settled = IsKept-settles _ c.args.id c.args.outcome _ c.self.inside.settled c.settle.new.self c.learn.new.self c.learn.ensures c.in_ok-settle.ensures.ok there c.self.invariant in
     let decided = IsKept-decides _ c.args.id (way_of c.args.way) c.args.outcome _ c.settle.new.self c.decide.new.self c.push.new.self.items c.decide.ensures more c.requires.way then settled in
-    IsKept-sends _ _ _ _ msgs (c.send_to_all.ensures ∙ ap (λ all. all ++ msgs) c.reserve.ensures.same)
-    (to_all-quiet _ _ _ _ _ (other-kind c.args.epoch c.args.id 0 (Decide c.args.outcome) (λ e. cc e))) (to_all-there _ _ _ _ _) decided
+    IsKept-tells c.self.inside.size c.args.epoch c.args.id 0 (Decide c.args.outcome) _ _ _ (c.send_to_all.ensures ∙ ap (λ all. all ++ msgs) c.reserve.ensures.same) (λ e. cc e) decided
 
 pub returns-clause-ok : goal.returns-clause-ok
 returns-clause-ok c =
