@@ -304,7 +304,7 @@ pub IsKept-takeover_changed : (f : ℕ) (turn : Turn) (g : TakeoverOf → Takeov
 IsKept-takeover_changed f turn g kept ends takeovers is h =
     IsKept-takeovers f kept ends takeovers
     (subst (Each (λ (backup : BackupView). backup.faults ≡ f)) (sym is)
-      (Each-change (λ (backup : BackupView). is_takeover turn.id turn.view backup.of) (on_backup g) (λ backup. backup.faults ≡ f) (λ backup t made. made) kept.takeovers h.takeovers))
+    (Each-change (λ (backup : BackupView). is_takeover turn.id turn.view backup.of) (on_backup g) (λ backup. backup.faults ≡ f) (λ backup t made. made) kept.takeovers h.takeovers))
     h
 
 pub IsKept-takes_over : (f : ℕ) (backup : BackupView) (kept : Kept) (ends : SettledAttempts) (takeovers : List BackupView) → takeovers ≡ kept.takeovers ++ backup ∷ [] → backup.faults ≡ f → IsKept f kept ends

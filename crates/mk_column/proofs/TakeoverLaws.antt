@@ -91,6 +91,7 @@ takeover-state round column id view s found = by_found (attempt_of column id) re
   where
     begun : ℕ → TxnId → ColumnState
     begun epoch i = send (to_all round.faults epoch i view Ask) (record column { takeovers = column.takeovers ++ (backup_begun round.faults i view).of ∷ [] })
+
     by_found : (o : Option AttemptState) → attempt_of column id ≡ o → option_map shown o ≡ Some s → begun s.epoch id ≡ record (on_some (taken_over round.faults view) o column) { learned = column.learned ++ [] }
     by_found None there e = absurd (none-some s e)
     by_found (Some a) there e =
