@@ -8,6 +8,9 @@ pub mod TurnOrder
 pub mod NumberOrder
 pub mod ColumnLaws
 pub mod StampLaws
+pub mod EachMapped
+pub mod FreshClients
+pub mod RoundLaws
 pub mod ListLaws
 pub mod KeptLaws
 pub mod SendLaws
@@ -15,3 +18,6 @@ pub mod StepLaws
 pub mod TakeoverLaws
 pub mod MarkLaws
 pub mod KeptSteps
+pub mod BeginLaws
+pub mod StampedLaws
+pub mod AnswerLaws

@@ -17,7 +17,7 @@ use Rattle.mk_record.specs.Entries.{entry_of, may_vote}
 use Rattle.mk_column.specs.declared.learned.Way.{Way as KeptWay}
 use Rattle.mk_column.specs.declared.learned.Way.TheVariants.{Votes, Accepts, Pick, Moved, Telling, Finishing}
 use Rattle.mk_column.specs.declared.learned.Learned.{Learned}
-use Rattle.mk_column.specs.ColumnState.{Setting, ColumnState, Learning, Way, is_settled}
+use Rattle.mk_column.specs.ColumnState.{Setting, ColumnState, Learning, Way, new_column, is_settled}
 use Rattle.mk_column.specs.ColumnState.Way.{ByVotes, ByAccepts, ByPick, ByMoved, ByTelling, ByFinishing}
 use Rattle.mk_column.specs.Replicas.{Held}
 use Rattle.mk_column.specs.Conditions.{is_validate_of}
@@ -33,6 +33,10 @@ pub record ColumnView : Type 0 where
   pub setting : Setting
   pub state : ColumnState
   pub log : List Step
+
+-- a column of this number at the start, with these clients
+abbrev pub column_at_start : ℕ → Setting → List ℕ → ColumnView
+column_at_start number setting clients = record { number = number; setting = setting; state = new_column setting.faults clients; log = [] }
 
 -- how an outcome was learned
 abbrev pub way_of : KeptWay → Way

@@ -1,5 +1,5 @@
 -- What each step changes, and a column's step as a relation.
-use Rattle.std.specs.Prelude.{◌≡◌, ℕ, ◌+◌, max, true, false, List, [], ◌∷◌, ◌++◌, Option, Some, None, slice_get, slice_set, if◌then◌else◌}
+use Rattle.std.specs.Prelude.{◌≡◌, ℕ, ◌+◌, max, Bool, true, false, List, [], ◌∷◌, ◌++◌, Option, Some, None, slice_get, slice_set, if◌then◌else◌}
 use Rattle.mk_txn.specs.declared.TxnId.{TxnId}
 use Rattle.mk_txn.specs.declared.Stamp.{Stamp as StampType}
 use Rattle.mk_txn.specs.declared.ReadItem.{ReadItem}
@@ -215,6 +215,16 @@ answered answer (Validating txn replica epoch state) column =
     let next = after_answer state answer in validated txn replica epoch next (next_act next) column
 answered answer (Finishing replica []) column = record column { work = Idle }
 answered answer (Finishing replica (act ∷ acts)) column = record column { work = finishing replica acts }
+
+-- a validation is under way
+abbrev pub is_validating : Work → Bool
+is_validating (Validating txn replica epoch state) = true
+is_validating _ = false
+
+-- the end of a transaction is under way
+abbrev pub is_at_end : Work → Bool
+is_at_end (Finishing replica left) = true
+is_at_end _ = false
 
 -- what a step changes, but for what was learned
 abbrev pub stepped : Setting → ColumnState → Step → ColumnState
