@@ -15,6 +15,9 @@ pub mod ListLaws
 pub mod KeptLaws
 pub mod SendLaws
 pub mod StepLaws
+pub mod TakeoverLaws
+pub mod MarkLaws
+pub mod KeptSteps
 pub mod BeginLaws
 pub mod StampedLaws
 pub mod AnswerLaws

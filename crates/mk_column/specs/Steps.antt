@@ -25,7 +25,7 @@ use Rattle.mk_takeover.specs.Picks.{pick, new_takeover, takeover_proposed}
 use Rattle.mk_merge.specs.declared.ReplicaView.{ReplicaView}
 use Rattle.mk_column.specs.declared.Step.{Step}
 use Rattle.mk_column.specs.declared.Step.TheVariants.{Begin, Unread, Read, Stamp, Validate, Take, Key, Rule, Again, Takeover, Pick as PickStep, Stop}
-use Rattle.mk_column.specs.ColumnState.{Setting, ColumnState, AttemptState, TakeoverOf, ClientState, Work, client_of, attempt_of, takeover_of, entries_at, change_client, change_attempt, change_takeover, mark_sent, to_all, send}
+use Rattle.mk_column.specs.ColumnState.{Setting, ColumnState, AttemptState, TakeoverOf, ClientState, Learning, Work, client_of, attempt_of, takeover_of, entries_at, change_client, change_attempt, change_takeover, mark_sent, to_all, send}
 use Rattle.mk_column.specs.ColumnState.Work.{Idle, Fetching, Validating, Finishing}
 use Rattle.mk_column.specs.Replicas.{reacted, reaction_by_view, finishing, held_at}
 use Rattle.mk_column.specs.Answers.{answer_taken}
@@ -114,6 +114,10 @@ proposing outcome attempt = record attempt { coord = coord_proposed outcome atte
 -- the own coordinator has learned, and what it learned first stays
 abbrev pub taught : Outcome → AttemptState → AttemptState
 taught outcome attempt = record attempt { coord = coord_taught (Some outcome) attempt.coord }
+
+-- a column where this was learned too
+abbrev pub with_learning : Learning → ColumnState → ColumnState
+with_learning l column = record column { learned = column.learned ++ l ∷ [] }
 
 -- what is decided is sent to all, and what is proposed too
 abbrev pub ruled : ℕ → AttemptState → Ruling → ColumnState → ColumnState
