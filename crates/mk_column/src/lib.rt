@@ -13,6 +13,7 @@ mod begun;
 mod clients;
 mod column;
 mod conditions;
+mod hearing;
 mod learned;
 mod replica;
 mod sending;
