@@ -10,7 +10,7 @@ use Rattle.std.proofs.lemmas.Bool.{false≢true}
 use Rattle.std.proofs.lemmas.Option.{none-some, same_Some, slice_get-get_or, slice_get_past, slice_get_read}
 use Rattle.std.proofs.lemmas.List.{set-get_or}
 use Rattle.std.proofs.Math.Seq.{map-set_same}
-use Rattle.mk_lists.specs.Among.{Among, AllDistinct, Among-append}
+use Rattle.mk_lists.specs.Among.{Among, AllDistinct, Among-append, Among-append_left, Among-append_right}
 use Rattle.mk_lists.specs.Changed.{change}
 use Rattle.mk_column.specs.Tables.{place_in, kept_place, IsIndexed}
 
@@ -181,6 +181,37 @@ module _ {K X : Type 0} (same : K → K → Bool) (cmp : K → K → Ordering) (
       ∙ ap (λ n. cond (same id q) (Some n) (kept_place cmp old q)) (sym (length-keys members))
       ∙ ap (λ o. cond (same id q) (Some (length keys)) o) (h.placed q) ∙ sym (place-push q keys id away) in
       subst (λ all. IsIndexed same cmp all new) (sym (keys-push members member)) (record { distinct = distinct-push keys id away h.distinct; placed = placed })
+
+  -- ---- dropping the last member
+
+  AllDistinct-front : (keys : List K) (id : K) → AllDistinct (keys ++ id ∷ []) → AllDistinct keys
+  AllDistinct-front [] id h = tt
+  AllDistinct-front (first ∷ rest) id h = ((λ a. h.0 (Among-append_left first rest (id ∷ []) a)), AllDistinct-front rest id h.1)
+
+  last-nowhere : (keys : List K) (id : K) → AllDistinct (keys ++ id ∷ []) → place_in same id keys ≡ None
+  last-nowhere [] id h = refl
+  last-nowhere (first ∷ rest) id h = by_first (same first id) refl (last-nowhere rest id h.1)
+    where
+      by_first : (b : Bool) → same first id ≡ b → place_in same id rest ≡ None → cond b (Some 0) (option_map suc (place_in same id rest)) ≡ None
+      by_first true here ih = absurd (h.0 (Among-append_right first rest (id ∷ []) (inl (sym (tells first id here)))))
+      by_first false here ih = ap (option_map suc) ih
+
+  -- the index without the last member is that of the list without it
+  pub IsIndexed-dropped : (members : List X) (member : X) (old new : List (K × ℕ))
+      → ((q : K) → kept_place cmp new q ≡ cond (is_at (cmp (key member)) q) None (kept_place cmp old q)) → IsIndexed same cmp (keys_of (members ++ member ∷ [])) old → IsIndexed same cmp (keys_of members) new
+  IsIndexed-dropped members member old new takes h =
+      let keys = keys_of members in
+      let id = key member in
+      let all : IsIndexed same cmp (keys ++ id ∷ []) old = subst (λ all. IsIndexed same cmp all old) (keys-push members member) h in
+      let away : place_in same id keys ≡ None = last-nowhere keys id all.distinct in
+      record {
+        distinct = AllDistinct-front keys id all.distinct;
+        placed = λ q. takes q ∙ ap (λ b. cond b None (kept_place cmp old q)) (agrees id q) ∙ ap (λ o. cond (same id q) None o) (all.placed q ∙ place-push q keys id away) ∙ by_test keys id away q (same id q) refl;
+      }
+    where
+      by_test : (keys : List K) (id : K) → place_in same id keys ≡ None → (q : K) (t : Bool) → same id q ≡ t → cond t None (cond t (Some (length keys)) (place_in same q keys)) ≡ place_in same q keys
+      by_test keys id away q true e = sym (subst (λ k. place_in same k keys ≡ None) (tells id q e) away)
+      by_test keys id away q false e = refl
 
   -- ---- what the index finds
 

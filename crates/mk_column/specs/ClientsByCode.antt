@@ -1,13 +1,35 @@
 -- What the code keeps of a client.
-use Rattle.std.specs.Prelude.{ℕ, Bool, ◌==◌, false, List, Option, find, map, option_map, option_copied}
+use Rattle.std.specs.Prelude.{ℕ, ◌+◌, max, Bool, ◌==◌, false, List, Option, find, map, option_map, option_copied}
 use Rattle.std.specs.Borrow.{Bor}
 use Rattle.mk_lists.specs.Changed.{change}
+use Rattle.mk_txn.specs.declared.TxnId.{TxnId}
 use Rattle.mk_column.specs.declared.clients.Client.{Client}
 use Rattle.mk_column.specs.ColumnState.{ClientState}
 
 -- a client that has begun nothing
 abbrev pub fresh_client : ℕ → Client
 fresh_client number = record { number = number; last_time = 0; next_seq = 1; heard = 0; reading = false }
+
+-- a client none of whose attempts reads
+abbrev pub not_reading : Client → Client
+not_reading client = record client { reading = false }
+
+-- the number of a client's next attempt
+abbrev pub next_of : Client → TxnId
+next_of client = record { client = client.number; seq = client.next_seq }
+
+-- a client that has begun one more attempt, in this epoch, and whether it reads
+abbrev pub client_begun : ℕ → Bool → Client → Client
+client_begun epoch reading client =
+    record client { next_seq = client.next_seq + 1; heard = max client.heard epoch; reading = reading }
+
+-- a client whose last stamp has this time, and none of whose attempts reads
+abbrev pub client_stamped : ℕ → Client → Client
+client_stamped time client = record client { last_time = time; reading = false }
+
+-- a client that has heard of this epoch
+abbrev pub client_heard : ℕ → Client → Client
+client_heard epoch client = record client { heard = max client.heard epoch }
 
 -- the client's number
 abbrev pub number_of : Client → ℕ

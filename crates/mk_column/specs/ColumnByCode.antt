@@ -1,5 +1,5 @@
 -- What the code keeps of a column, and what contracts see of it.
-use Rattle.std.specs.Prelude.{◌≡◌, ℕ, ◌<◌, ◌≤◌, ◌^◌, Bool, false, ◌==◌, ◌||◌, ◌&&◌, List, length, map, find, option_map, Option, None, Some}
+use Rattle.std.specs.Prelude.{◌≡◌, ℕ, ◌+◌, ◌<◌, ◌≤◌, ◌^◌, Bool, true, false, ◌==◌, ◌||◌, ◌&&◌, List, [], ◌∷◌, length, map, find, slice_index_or, option_map, Option, None, Some, IsSome, IsSomeAnd}
 use Rattle.std.specs.List.{list_any}
 use Rattle.mk_lists.specs.Among.{Each}
 use Rattle.mk_txn.specs.declared.TxnId.{TxnId}
@@ -12,10 +12,12 @@ use Rattle.mk_trim.specs.SettledAttempts.{SettledAttempts, is_settled as is_kept
 use Rattle.mk_column.specs.declared.Step.{Step}
 use Rattle.mk_column.specs.declared.clients.Client.{Client}
 use Rattle.mk_column.specs.declared.work.Work.{Work as KeptWork}
+use Rattle.mk_column.specs.declared.work.Work.TheVariants.{Idle as KeptIdle, Fetching as KeptFetching, Validating as KeptValidating, Finishing as KeptFinishing}
+use Rattle.mk_record.specs.Entries.{entry_of, may_vote}
 use Rattle.mk_column.specs.declared.learned.Way.{Way as KeptWay}
 use Rattle.mk_column.specs.declared.learned.Way.TheVariants.{Votes, Accepts, Pick, Moved, Telling, Finishing}
 use Rattle.mk_column.specs.declared.learned.Learned.{Learned}
-use Rattle.mk_column.specs.ColumnState.{Setting, ColumnState, Learning, Way, is_settled}
+use Rattle.mk_column.specs.ColumnState.{Setting, ColumnState, Learning, Way, new_column, is_settled}
 use Rattle.mk_column.specs.ColumnState.Way.{ByVotes, ByAccepts, ByPick, ByMoved, ByTelling, ByFinishing}
 use Rattle.mk_column.specs.Replicas.{Held}
 use Rattle.mk_column.specs.Conditions.{is_validate_of}
@@ -23,7 +25,7 @@ use Rattle.mk_column.specs.Learnings.{is_decision_of}
 use Rattle.mk_column.specs.HeldByCode.{work_of}
 use Rattle.mk_column.specs.AttemptsByCode.{BegunView, begun_of, states_of}
 use Rattle.mk_column.specs.TakeoversByCode.{BackupView, takeovers_of}
-use Rattle.mk_column.specs.ClientsByCode.{client_states}
+use Rattle.mk_column.specs.ClientsByCode.{client_states, kept_client}
 
 -- a column, as contracts see it: its number, the round's setting, its state, and the steps since the log was taken
 pub record ColumnView : Type 0 where
@@ -31,6 +33,10 @@ pub record ColumnView : Type 0 where
   pub setting : Setting
   pub state : ColumnState
   pub log : List Step
+
+-- a column of this number at the start, with these clients
+abbrev pub column_at_start : ℕ → Setting → List ℕ → ColumnView
+column_at_start number setting clients = record { number = number; setting = setting; state = new_column setting.faults clients; log = [] }
 
 -- how an outcome was learned
 abbrev pub way_of : KeptWay → Way
@@ -44,6 +50,11 @@ way_of Finishing = ByFinishing
 -- what was learned
 abbrev pub learning_of_kept : Learned → Learning
 learning_of_kept learned = record { id = learned.id; outcome = learned.outcome; way = way_of learned.way }
+
+-- what is kept where a replica finished, and else nothing
+abbrev pub finish_kept : TxnId → Option Outcome → List Learned
+finish_kept id (Some outcome) = record { id = id; outcome = outcome; way = Finishing } ∷ []
+finish_kept id None = []
 
 -- the parts of a column that change in its steps
 pub record Kept : Type 0 where
@@ -77,18 +88,33 @@ has_reading client attempts = list_any (λ begun. begun.state.reading && begun.s
 abbrev pub first_decision : List Learning → TxnId → Option Outcome
 first_decision learned id = option_map (λ l. l.outcome) (find (is_decision_of id) learned)
 
+-- the replica's entry of this attempt may vote
+abbrev pub MayVoteAt : ℕ → TxnId → List Held → Type 0
+MayVoteAt r id replicas = IsSomeAnd (entry_of id (slice_index_or replicas r (record { entries = []; marks = [] })).entries) (λ entry. may_vote entry ≡ true)
+
+-- what the key calls under way keep: the attempt that is read for is there, and the entry that is validated may vote
+abbrev pub WorkFits : ℕ → List BegunView → List Held → KeptWork → Type 0
+WorkFits n attempts replicas KeptIdle = Unit {0}
+WorkFits n attempts replicas (KeptFetching id replica key) = IsSome (begun_of id attempts)
+WorkFits n attempts replicas (KeptValidating txn replica epoch state) = (replica < n) × MayVoteAt replica txn.id replicas
+WorkFits n attempts replicas (KeptFinishing replica left) = Unit {0}
+
 -- what each attempt keeps: its flags are what was sent and learned, and its transaction has its number
 pub record AttemptFits (f : ℕ) (link : List Msg) (learned : List Learning) (begun : BegunView) : Type 0 where
   pub faults : begun.faults ≡ f
   pub validated : begun.validated ≡ list_any (is_validate_of begun.state.id) link
   pub decided : begun.decided ≡ first_decision learned begun.state.id
   pub named : (txn : Transaction) → begun.state.txn ≡ Some txn → txn.id ≡ begun.state.id
+  pub unstamped : begun.state.reading ≡ true → begun.state.txn ≡ None
+  pub seq : begun.state.id.seq ≤ 16384
 
--- what each client keeps: whether it reads, a last time that there is, and a next place above its attempts
+-- what each client keeps: whether it reads, a last time that there is, and a next place above its attempts, of which
+-- only the last can read
 pub record ClientFits (attempts : List BegunView) (client : Client) : Type 0 where
   pub reading : client.reading ≡ has_reading client.number attempts
   pub last_time : client.last_time ≤ 2 ^ 62
   pub next_seq : Each (λ begun. begun.state.id.client ≡ client.number → begun.state.id.seq < client.next_seq) attempts
+  pub last : Each (λ begun. begun.state.id.client ≡ client.number → begun.state.reading ≡ true → begun.state.id.seq + 1 ≡ client.next_seq) attempts
 
 -- what a column keeps
 pub record IsKept (f : ℕ) (kept : Kept) (ends : SettledAttempts) : Type 0 where
@@ -100,3 +126,5 @@ pub record IsKept (f : ℕ) (kept : Kept) (ends : SettledAttempts) : Type 0 wher
   pub settled : (id : TxnId) → is_kept_settled ends id ≡ ((id.seq == 0) || passes (λ (begun : BegunView). is_settled begun.state) (begun_of id kept.attempts))
   pub decisions : (id : TxnId) → begun_of id kept.attempts ≡ None → first_decision (map learning_of_kept kept.learned) id ≡ None
   pub validates : (id : TxnId) → begun_of id kept.attempts ≡ None → list_any (is_validate_of id) kept.link ≡ false
+  pub homes : Each (λ (begun : BegunView). IsSome (kept_client begun.state.id.client kept.clients)) kept.attempts
+  pub work : WorkFits (members f) kept.attempts kept.replicas kept.work

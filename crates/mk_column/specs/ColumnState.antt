@@ -1,5 +1,5 @@
 -- What a column keeps, and how its parts are found and changed.
-use Rattle.std.specs.Prelude.{ℕ, zero, suc, ◌+◌, Bool, ◌&&◌, ◌==◌, ◌||◌, List, [], ◌∷◌, ◌++◌, length, map, replicate, Option, find, is_some, slice_index_or, if◌then◌else◌}
+use Rattle.std.specs.Prelude.{ℕ, zero, suc, ◌+◌, Bool, ◌&&◌, ◌==◌, ◌||◌, List, [], ◌∷◌, ◌++◌, length, map, replicate, Option, Some, None, find, is_some, option_and_then, slice_get, slice_index_or, if◌then◌else◌}
 use Rattle.mk_lists.specs.Changed.{change}
 use Rattle.mk_txn.specs.declared.TxnId.{TxnId}
 use Rattle.mk_txn.specs.declared.ReadItem.{ReadItem}
@@ -134,6 +134,14 @@ is_takeover id view takeover = same_id takeover.id id && takeover.state.view == 
 -- the takeover of this attempt at this view
 abbrev pub takeover_of : ColumnState → TxnId → ℕ → Option TakeoverOf
 takeover_of column id view = find (is_takeover id view) column.takeovers
+
+-- the attempt and the view of a takeover that is not closed
+abbrev pub open_turn : TakeoverOf → Option (TxnId × ℕ)
+open_turn takeover = if takeover.closed then None else Some (takeover.id, takeover.state.view)
+
+-- the attempt and the view of the takeover at this place, where it is there and not closed
+abbrev pub open_at : ColumnState → ℕ → Option (TxnId × ℕ)
+open_at column place = option_and_then open_turn (slice_get column.takeovers place)
 
 -- an attempt as the outside sees it
 abbrev pub shown : AttemptState → Attempt

@@ -26,6 +26,10 @@ pub record Held : Type 0 where
   pub entries : List Entry
   pub marks : MarkMap
 
+-- neither entries nor marks
+abbrev pub nothing_held : Held
+nothing_held = record { entries = []; marks = [] }
+
 -- what a replica then holds, what it sends, and the key calls that it begins
 pub record Reaction : Type 0 where
   pub held : Held

@@ -1,11 +1,12 @@
 //! The attempts of a column, found by their numbers.
-ghost use Rattle.std.specs.Prelude.{◌≡◌, ◌<◌, ◌∷◌, ◌++◌, [], true, false, None, Some, length, slice_index_or, slice_set, option_copied, IsSome, IsSomeAnd, OnOk, OnErr};
+ghost use Rattle.std.specs.Prelude.{◌≡◌, ◌<◌, List, ◌∷◌, ◌++◌, [], true, false, None, Some, length, map, slice_index_or, slice_set, option_copied, option_and_then, IsSome, IsSomeAnd, OnOk, OnErr};
 ghost use Rattle.std.specs.Option.{option_or};
 ghost use Rattle.mk_quorum.specs.Sizes.{members};
 ghost use Rattle.mk_coord.specs.declared.Ruling.TheVariants.{Propose};
 ghost use Rattle.mk_coord.specs.Rulings.{ruling as ruling_of};
 ghost use Rattle.mk_column.specs.Answers.{attempt_answered};
 ghost use Rattle.mk_column.specs.Steps.{proposing, taught};
+ghost use Rattle.mk_column.specs.Logs.{not_reading};
 ghost use Rattle.mk_column.specs.AttemptsByCode.{BegunView as OneBegun, on_state, begun_of, change_begun};
 
 use crate::begun::Begun;
@@ -54,6 +55,16 @@ impl Attempts {
         self.items.get(*place)
     }
 
+    /// The transaction of this number, once it is stamped.
+    pub(crate) fn txn(&self, id: TxnId) -> Option<&Txn>
+        ensures { option_copied result ≡ option_and_then (λ (begun : OneBegun). begun.state.txn) (begun_of id self.now) }
+    {
+        match self.find(id) {
+            Some(begun) => begun.shown().txn.as_ref(),
+            None => None,
+        }
+    }
+
     /// Appends an attempt, of whose number there is none.
     pub(crate) fn push(&mut self, begun: Begun) -> Result<(), NoMemory>
         requires { begun_of begun.state.id self.old ≡ None }
@@ -67,6 +78,15 @@ impl Attempts {
             unreachable!();
         }
         Ok(())
+    }
+
+    /// Takes the last attempt away.
+    pub(crate) fn pop(&mut self)
+        ensures { (all : List OneBegun) (begun : OneBegun) → self.old ≡ all ++ begun ∷ [] → self.new ≡ all }
+    {
+        if let Some(begun) = self.items.pop() {
+            self.places.remove(&begun.id());
+        }
     }
 
     // Where the attempt of this number stands. To change it there is to change it in the list.
@@ -85,7 +105,8 @@ impl Attempts {
     /// Reading ends, and the transaction is made.
     pub(crate) fn stamp(&mut self, id: TxnId, txn: Txn)
         requires { IsSome (begun_of id self.old) }
-        ensures { self.new ≡ change_begun id (on_state (λ a. record a { reading = false; txn = Some txn })) self.old }
+        ensures changed { self.new ≡ change_begun id (on_state (λ a. record a { reading = false; txn = Some txn })) self.old }
+        ensures as_found { (f : OneBegun → OneBegun) (before : OneBegun) → begun_of id self.old ≡ Some before → f before ≡ on_state (λ a. record a { reading = false; txn = Some txn }) before → self.new ≡ change_begun id f self.old }
     {
         let place = self.place(id);
         self.items[place].stamp(txn);
@@ -138,6 +159,13 @@ impl Attempts {
         self.items[place].answer(replica, body);
     }
 
+    /// No attempt reads any more.
+    pub(crate) fn end_reading(&mut self)
+        ensures { self.new ≡ map (on_state not_reading) self.old }
+    {
+        end_reading(self.items.as_mut_slice());
+    }
+
     /// A Validate of the attempt was sent.
     pub(crate) fn validate(&mut self, id: TxnId)
         requires { IsSome (begun_of id self.old) }
@@ -154,5 +182,13 @@ impl Attempts {
     {
         let place = self.place(id);
         self.items[place].decide(outcome);
+    }
+}
+
+fn end_reading(attempts: &mut [Begun])
+    ensures { attempts.new ≡ map (on_state not_reading) attempts.old }
+{
+    for begun in attempts.iter_mut() {
+        begun.end_reading();
     }
 }

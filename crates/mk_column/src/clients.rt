@@ -2,7 +2,7 @@
 ghost use Rattle.std.specs.Prelude.{◌≡◌, ◌<◌, ◌∷◌, ◌++◌, [], None, Some, length, map, slice_index_or, slice_set, option_copied, IsSome, IsSomeAnd, OnOk, OnErr, IfOk};
 ghost use Rattle.mk_lists.specs.Among.{AllDistinct};
 ghost use Rattle.mk_column.specs.declared.clients.Client.{Client as OneClient};
-ghost use Rattle.mk_column.specs.ClientsByCode.{fresh_client, kept_client, change_kept};
+ghost use Rattle.mk_column.specs.ClientsByCode.{fresh_client, not_reading, kept_client, change_kept};
 
 use mk_txn::NoMemory;
 use std::alloc::Global;
@@ -50,6 +50,25 @@ impl Clients {
             items: Vec::new(alloc),
             places: BTreeMap::new(alloc),
         }
+    }
+
+    /// Clients of these numbers, that have begun nothing.
+    pub(crate) fn named(alloc: Global, numbers: &[u32]) -> Result<Clients, NoMemory>
+        requires { AllDistinct numbers.now }
+        ensures { IfOk result (λ clients. clients ≡ map fresh_client numbers.now) }
+    {
+        let mut clients = Clients::new(alloc);
+        for number in numbers {
+            clients.push(*number)?;
+        }
+        Ok(clients)
+    }
+
+    /// No client reads any more.
+    pub(crate) fn end_reading(&mut self)
+        ensures { self.new ≡ map not_reading self.old }
+    {
+        end_reading(self.items.as_mut_slice());
     }
 
     /// The client of this number.
@@ -108,5 +127,13 @@ impl Clients {
     {
         let place = self.place(client.number);
         self.items[place] = client;
+    }
+}
+
+fn end_reading(clients: &mut [Client])
+    ensures { clients.new ≡ map not_reading clients.old }
+{
+    for client in clients.iter_mut() {
+        client.reading = false;
     }
 }

@@ -1,11 +1,14 @@
 //! One core number on all replicas.
-ghost use Rattle.std.specs.Prelude.{◌≡◌, [], true, ◌&&◌, ◌^◌, nat_le, is_none, is_some, IfSome, IfOk, IsSome, Some, ◌<◌, ◌≤◌, slice_get, option_map, option_copied};
-ghost use Rattle.mk_column.specs.ColumnState.{AttemptState, ClientState, attempt_of, takeover_of, client_of, entries_at, marks_at, shown};
+ghost use Rattle.std.specs.Prelude.{◌≡◌, [], length, replicate, true, ◌&&◌, ◌^◌, nat_le, is_none, is_some, IfSome, IfOk, IsSome, Some, ◌<◌, ◌≤◌, slice_get, option_map, option_copied};
+ghost use Rattle.mk_column.specs.ColumnState.{AttemptState, ClientState, attempt_of, takeover_of, client_of, entries_at, marks_at, shown, open_at};
 ghost use Rattle.mk_column.specs.declared.Step.TheVariants.{Read, Validate, Again, Stop, Take, Rule, Pick, Takeover, Begin, Unread, Key, Stamp as StampStep};
 ghost use Rattle.mk_column.specs.Conditions.{is_idle, wanted, first_failing, further_conditions, on_attempt, acts_on, picks_one, is_validate_of, leader_serves as leader_serves_in, may_begin as may_begin_in, heard_by, same_call, stamp_exists, first_condition, blocked as blocked_by, serves_from as serving_from};
 ghost use Rattle.mk_column.specs.ClientsByCode.{seen_client};
 ghost use Rattle.mk_column.specs.Answers.{is_led as is_led_in};
-ghost use Rattle.mk_column.specs.Logs.{replica_reset};
+ghost use Rattle.mk_lists.specs.Among.{AllDistinct};
+ghost use Rattle.mk_column.specs.Replicas.{nothing_held};
+ghost use Rattle.mk_column.specs.ColumnByCode.{column_at_start};
+ghost use Rattle.mk_column.specs.Logs.{replica_reset, reading_ended};
 ghost use Rattle.mk_coord.specs.Rulings.{ruling as ruling_of};
 ghost use Rattle.mk_takeover.specs.Picks.{pick as pick_of};
 ghost use Rattle.mk_quorum.specs.Slots.{passes};
@@ -42,20 +45,20 @@ use std::marker::Model;
 /// The clients, attempts, takeovers, records, marks and messages of one core number, and the key calls under way.
 #[derive(Drop, Debug)]
 pub struct Column {
-    size: Size,
-    number: u32,
-    version: u32,
-    keys: u32,
-    views: Vec<ReplicaView>,
-    clients: Clients,
-    attempts: Attempts,
-    takeovers: Takeovers,
-    replicas: Vec<Replica>,
-    link: Link,
-    work: Work,
-    learned: Vec<Learned>,
-    settled: Settled,
-    log: Vec<Step>,
+    pub(crate) size: Size,
+    pub(crate) number: u32,
+    pub(crate) version: u32,
+    pub(crate) keys: u32,
+    pub(crate) views: Vec<ReplicaView>,
+    pub(crate) clients: Clients,
+    pub(crate) attempts: Attempts,
+    pub(crate) takeovers: Takeovers,
+    pub(crate) replicas: Vec<Replica>,
+    pub(crate) link: Link,
+    pub(crate) work: Work,
+    pub(crate) learned: Vec<Learned>,
+    pub(crate) settled: Settled,
+    pub(crate) log: Vec<Step>,
 }
 
 impl Model for Column {
@@ -69,6 +72,47 @@ impl Model for Column {
 }
 
 impl Column {
+    /// A column at the start, with these clients.
+    pub fn new(
+        alloc: Global,
+        size: Size,
+        number: u32,
+        clients: &[u32],
+        keys: u32,
+        version: u32,
+    ) -> Result<Column, NoMemory>
+        requires { AllDistinct clients.now }
+        ensures { IfOk result (λ column. column ≡ column_at_start number (record { version = version; faults = size; keys = keys; views = [] }) clients.now) }
+    {
+        Ok(Column {
+            size,
+            number,
+            version,
+            keys,
+            views: Vec::new(alloc),
+            clients: Clients::named(alloc, clients)?,
+            attempts: Attempts::new(alloc),
+            takeovers: Takeovers::new(alloc),
+            replicas: empty_replicas(alloc, size.n())?,
+            link: Link::new(alloc),
+            work: Work::Idle,
+            learned: Vec::new(alloc),
+            settled: Settled::new(alloc),
+            log: Vec::new(alloc),
+        })
+    }
+
+    /// A round begins, in which columns see the replicas so. What still reads is over.
+    pub fn begin_round(&mut self, views: Vec<ReplicaView>)
+        requires views { length views.items ≡ members self.old.setting.faults }
+        requires idle { is_idle self.old.state.work ≡ true }
+        ensures { self.new ≡ record self.old { setting = record self.old.setting { views = views.items }; state = reading_ended self.old.state } }
+    {
+        self.attempts.end_reading();
+        self.clients.end_reading();
+        self.views = views;
+    }
+
     /// The key call that is wanted.
     pub fn wants(&self) -> Option<KeyCall>
         ensures { result ≡ wanted self.now.state.work }
@@ -154,7 +198,7 @@ impl Column {
     }
 
     // The attempt of this number, as it is kept.
-    fn begun(&self, id: TxnId) -> Option<&Begun>
+    pub(crate) fn begun(&self, id: TxnId) -> Option<&Begun>
         ensures { option_map (λ (begun : BegunView). begun.state) (option_copied result) ≡ attempt_of self.now.state id }
     {
         self.attempts.find(id)
@@ -272,8 +316,8 @@ impl Column {
         ])
     }
 
-    // Whether a Validate of the attempt was sent.
-    fn is_validated(&self, id: TxnId) -> bool
+    /// Whether a Validate of the attempt was sent.
+    pub fn is_validated(&self, id: TxnId) -> bool
         ensures { result ≡ list_any (is_validate_of id) self.now.state.link }
     {
         match self.attempts.find(id) {
@@ -326,8 +370,8 @@ impl Column {
         }
     }
 
-    // Whether the replica serves an epoch that the client may begin in.
-    fn serves_client(&self, client: u32, replica: u32) -> bool
+    /// Whether the replica serves an epoch that the client may begin in.
+    pub fn serves_client(&self, client: u32, replica: u32) -> bool
         ensures { result ≡ passes (serving_from (heard_by self.now.state client)) (slice_get self.now.setting.views replica) }
     {
         let heard = self.heard(client);
@@ -452,6 +496,32 @@ impl Column {
             Some(1)
         }
     }
+
+    /// Whether the client is of this column.
+    pub fn has_client(&self, client: u32) -> bool
+        ensures { result ≡ is_some (client_of self.now.state client) }
+    {
+        self.client(client).is_some()
+    }
+
+    /// How many takeovers have begun.
+    pub fn takeover_count(&self) -> usize
+        ensures { result ≡ length self.now.state.takeovers }
+    {
+        self.takeovers.len()
+    }
+
+    /// The attempt and the view of the takeover at this place, where it is not done.
+    pub fn open_takeover(&self, place: usize) -> Option<(TxnId, u32)>
+        ensures { result ≡ open_at self.now.state place }
+    {
+        let backup = self.takeovers.get(place)?;
+        if backup.is_closed() {
+            return None;
+        }
+        let turn = backup.turn();
+        Some((turn.id, turn.view))
+    }
 }
 
 fn copies(alloc: Global, entries: &[Entry]) -> Result<Vec<Entry>, NoMemory>
@@ -462,4 +532,15 @@ fn copies(alloc: Global, entries: &[Entry]) -> Result<Vec<Entry>, NoMemory>
         copies.push(entry.copy()?)?;
     }
     Ok(copies)
+}
+
+// So many replicas without entries and marks.
+fn empty_replicas(alloc: Global, count: u32) -> Result<Vec<Replica>, NoMemory>
+    ensures { IfOk result (λ replicas. replicas.items ≡ replicate count nothing_held) }
+{
+    let mut replicas = Vec::new(alloc);
+    for _replica in 0..count {
+        replicas.push(Replica::new(alloc))?;
+    }
+    Ok(replicas)
 }

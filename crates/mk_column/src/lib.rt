@@ -5,15 +5,22 @@ ghost use Rattle.std.specs.Prelude.{◌≡◌, ◌==◌};
 ghost use Rattle.std.specs.List.{list_any};
 ghost use Rattle.mk_txn.specs.Transactions.{are_distinct as keys_differ, write_keys};
 
+mod answering;
 mod attempts;
 mod backup;
+mod beginning;
 mod begun;
 mod clients;
 mod column;
 mod conditions;
+mod hearing;
 mod learned;
 mod replica;
+mod sending;
+mod stamping;
+mod stepping;
 mod takeovers;
+mod taking;
 mod work;
 
 pub use column::Column;
@@ -77,7 +84,7 @@ impl Reads {
         self.items.len() == 0
     }
 
-    fn as_slice(&self) -> &[ReadItem]
+    pub fn as_slice(&self) -> &[ReadItem]
         ensures { result.now ≡ self.now }
     {
         self.items.as_slice()
@@ -112,10 +119,22 @@ impl Writes {
     ghost use Rattle.std.specs.List.{list_all};
     ghost use Rattle.mk_column.specs.Conditions.{writes_fit};
 
+    pub fn of(items: Vec<WriteItem>) -> Writes
+        ensures { result ≡ items.items }
+    {
+        Writes { items }
+    }
+
     fn is_empty(&self) -> bool
         ensures { result ≡ (length self.now == 0) }
     {
         self.items.len() == 0
+    }
+
+    pub(crate) fn as_slice(&self) -> &[WriteItem]
+        ensures { result.now ≡ self.now }
+    {
+        self.items.as_slice()
     }
 
     // Whether each key is one of so many.

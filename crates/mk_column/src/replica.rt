@@ -1,7 +1,7 @@
 //! What a replica keeps of a column, and what it does with a message.
-ghost use Rattle.std.specs.Prelude.{◌≡◌, [], None, Some, IsSome, OnOk, OnErr, IfOk};
+ghost use Rattle.std.specs.Prelude.{◌≡◌, [], true, None, Some, option_copied, IsSome, IsSomeAnd, OnOk, OnErr, IfOk};
 ghost use Rattle.mk_record.specs.declared.Entry.{Entry as AnEntry};
-ghost use Rattle.mk_record.specs.Entries.{entry_of};
+ghost use Rattle.mk_record.specs.Entries.{entry_of, may_vote, change_entry, with_vote};
 ghost use Rattle.mk_msg.specs.declared.Msg.{Msg as AMsg};
 ghost use Rattle.mk_column.specs.Replicas.{Held as AllHeld, reaction_by_view, moved_reaction, on_validate, ask_known, accept_known, decide_known, entry_or_opened, with_entry, told_of, ignored, answering as all_answering, is_serving as serving_phase, finishing as work_finishing};
 ghost use Rattle.mk_column.specs.HeldByCode.{reaction_with, work_of, refused_with, answer_to_validate, is_decide as decide_body};
@@ -117,7 +117,7 @@ fn moved(view: &ReplicaView, msg: &Msg) -> Reaction
 }
 
 // The end of a transaction at a replica, where there is something to do.
-fn finishing(replica: u32, left: Finishing) -> Work
+pub(crate) fn finishing(replica: u32, left: Finishing) -> Work
     ensures { work_of result ≡ work_finishing replica left }
 {
     if left.next_act().is_none() {
@@ -144,10 +144,25 @@ impl Replica {
         self.record.entries()
     }
 
+    /// The entry of this attempt.
+    pub(crate) fn find(&self, id: TxnId) -> Option<&Entry>
+        ensures { option_copied result ≡ entry_of id self.now.entries }
+    {
+        self.record.find(id)
+    }
+
     pub(crate) fn marks(&self) -> &Marks
         ensures { result.now ≡ self.now.marks }
     {
         &self.marks
+    }
+
+    /// Sets the vote of an entry for which nothing was promised, voted, accepted or decided.
+    pub(crate) fn vote(&mut self, id: TxnId, vote: Vote)
+        requires { IsSomeAnd (entry_of id self.old.entries) (λ entry. may_vote entry ≡ true) }
+        ensures { self.new ≡ record self.old { entries = change_entry id (with_vote vote) self.old.entries } }
+    {
+        self.record.set_vote(id, vote);
     }
 
     /// Leaves no entries and no marks.

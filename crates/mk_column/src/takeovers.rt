@@ -1,5 +1,5 @@
 //! The takeovers of a column, found by attempt and view.
-ghost use Rattle.std.specs.Prelude.{◌≡◌, ◌<◌, ◌∷◌, ◌++◌, [], true, false, None, Some, length, slice_index_or, slice_set, option_copied, IsSome, IsSomeAnd, OnOk, OnErr};
+ghost use Rattle.std.specs.Prelude.{◌≡◌, ◌<◌, ◌∷◌, ◌++◌, [], true, false, None, Some, length, slice_get, slice_index_or, slice_set, option_copied, IsSome, IsSomeAnd, OnOk, OnErr};
 ghost use Rattle.mk_quorum.specs.Sizes.{members};
 ghost use Rattle.mk_takeover.specs.declared.Pick.TheVariants.{Propose};
 ghost use Rattle.mk_takeover.specs.Picks.{pick as pick_of};
@@ -50,6 +50,19 @@ impl Takeovers {
     {
         let place = self.places.get(&turn)?;
         self.items.get(*place)
+    }
+
+    /// The takeover at this place.
+    pub(crate) fn get(&self, place: usize) -> Option<&Backup>
+        ensures { option_copied result ≡ slice_get self.now place }
+    {
+        self.items.get(place)
+    }
+
+    pub(crate) fn len(&self) -> usize
+        ensures { result ≡ length self.now }
+    {
+        self.items.len()
     }
 
     /// Appends a takeover, where there is none of its attempt at its view.

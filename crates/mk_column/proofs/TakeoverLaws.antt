@@ -1,0 +1,98 @@
+-- What the tables of a column tell of its takeovers, and what is done by a pick.
+use Rattle.std.proofs.Common.{◌≡◌, ℕ, Bool, true, false, refl, sym, ap, subst, ◌∙◌, List, [], ◌∷◌, ◌++◌, Option, Some, None, IsSome}
+use Rattle.std.specs.Prelude.{find, map, option_map, IsSomeAnd}
+use Rattle.std.proofs.lemmas.Option.{none-some, same_Some}
+use Rattle.mk_lists.specs.Among.{Each}
+use Rattle.mk_lists.specs.Changed.{change}
+use Rattle.mk_txn.specs.declared.TxnId.{TxnId}
+use Rattle.mk_msg.specs.declared.Body.TheVariants.{Accept, Decide, Ask}
+use Rattle.mk_takeover.specs.declared.Pick.{Pick}
+use Rattle.mk_takeover.specs.declared.Pick.TheVariants.{Known, Learned as PickLearned, Propose as PickPropose, Short as PickShort, Unaccepted as PickUnaccepted, Unclear}
+use Rattle.mk_takeover.specs.Picks.{pick}
+use Rattle.mk_column.specs.declared.Attempt.{Attempt}
+use Rattle.mk_column.specs.declared.backup.Turn.{Turn}
+use Rattle.mk_column.specs.declared.Step.TheVariants.{Takeover, Pick as PickStep}
+use Rattle.mk_column.specs.ColumnState.{ColumnState, Setting, AttemptState, TakeoverOf, attempt_of, takeover_of, is_takeover, change_takeover, shown, send, to_all}
+use Rattle.mk_column.specs.ColumnState.Way.{ByTelling, ByPick}
+use Rattle.mk_column.specs.Learnings.{learning, by_pick, by_takeover}
+use Rattle.mk_column.specs.Steps.{column_after, on_some, picked, picking, taken_over, closing, takeover_proposing, with_learning}
+use Rattle.mk_column.specs.TakeoversByCode.{BackupView, backup_of, backup_begun, takeovers_of, change_backup, on_backup}
+use Rattle.mk_column.proofs.ColumnLaws.{takeover-found, Each-find}
+use Rattle.mk_column.proofs.ListLaws.{map-change, none-from_map}
+use Rattle.mk_column.proofs.StepLaws.{some-from_map, none-learned, attempt-named}
+
+pub backup-there : (turn : Turn) (all : List BackupView) (column : ColumnState) → column.takeovers ≡ takeovers_of all → IsSome (takeover_of column turn.id turn.view) → IsSome (backup_of turn all)
+backup-there turn all column is h =
+    some-from_map (λ (b : BackupView). b.of) (backup_of turn all) (subst IsSome (ap (find (is_takeover turn.id turn.view)) is ∙ takeover-found turn.id turn.view all) h)
+
+pub backup-none : (turn : Turn) (all : List BackupView) (column : ColumnState) → column.takeovers ≡ takeovers_of all → takeover_of column turn.id turn.view ≡ None → backup_of turn all ≡ None
+backup-none turn all column is none =
+    none-from_map (λ (b : BackupView). b.of) (backup_of turn all) (sym (ap (find (is_takeover turn.id turn.view)) is ∙ takeover-found turn.id turn.view all) ∙ none)
+
+pub pick-there : (f : ℕ) (turn : Turn) (all : List BackupView) (p : Pick) → Each (λ b. b.faults ≡ f) all
+    → IsSomeAnd (find (is_takeover turn.id turn.view) (takeovers_of all)) (λ t. pick f t.state ≡ p) → IsSomeAnd (backup_of turn all) (λ b. pick b.faults b.of.state ≡ p)
+pick-there f turn all p h is = by_found (backup_of turn all) refl (subst (λ o. IsSomeAnd o (λ (t : TakeoverOf). pick f t.state ≡ p)) (takeover-found turn.id turn.view all) is)
+  where
+    by_found : (o : Option BackupView) → backup_of turn all ≡ o → IsSomeAnd (option_map (λ (b : BackupView). b.of) o) (λ t. pick f t.state ≡ p) → IsSomeAnd o (λ b. pick b.faults b.of.state ≡ p)
+    by_found None e given = given
+    by_found (Some b) e given = ap (λ n. pick n b.of.state) (Each-find (λ (x : BackupView). x.faults ≡ f) (λ x. is_takeover turn.id turn.view x.of) all b h e) ∙ given
+
+pub pick-some : (f : ℕ) (turn : Turn) (all : List BackupView) (b : BackupView) → Each (λ b. b.faults ≡ f) all → backup_of turn all ≡ Some b
+    → option_map (λ t. pick f t.state) (find (is_takeover turn.id turn.view) (takeovers_of all)) ≡ Some (pick b.faults b.of.state)
+pick-some f turn all b h found =
+    ap (option_map (λ (t : TakeoverOf). pick f t.state)) (takeover-found turn.id turn.view all ∙ ap (option_map (λ (x : BackupView). x.of)) found)
+    ∙ ap (λ n. Some (pick n b.of.state)) (sym (Each-find (λ (x : BackupView). x.faults ≡ f) (λ x. is_takeover turn.id turn.view x.of) all b h found))
+
+-- the takeovers after one of them is changed
+pub takeovers-changed : (turn : Turn) (h : TakeoverOf → TakeoverOf) (all : List BackupView) → takeovers_of (change_backup turn (on_backup h) all) ≡ change (is_takeover turn.id turn.view) h (takeovers_of all)
+takeovers-changed turn h all = map-change (λ (b : BackupView). is_takeover turn.id turn.view b.of) (on_backup h) (is_takeover turn.id turn.view) h (λ (b : BackupView). b.of) (λ b. refl) (λ b. refl) all
+
+-- ---- what is done by a pick
+
+abbrev pub picked_by : ℕ → ℕ → TxnId → ℕ → Pick → ColumnState → ColumnState
+picked_by f epoch id view (Known outcome) column = send (to_all f epoch id view (Decide outcome)) (with_learning (learning id ByTelling outcome) (change_takeover id view closing column))
+picked_by f epoch id view (PickLearned outcome) column = send (to_all f epoch id view (Decide outcome)) (with_learning (learning id (ByPick view) outcome) (change_takeover id view closing column))
+picked_by f epoch id view (PickPropose outcome) column = change_takeover id view (takeover_proposing outcome) (send (to_all f epoch id view (Accept outcome)) column)
+picked_by f epoch id view (PickShort k) column = column
+picked_by f epoch id view (PickUnaccepted k) column = column
+picked_by f epoch id view (Unclear ok not_ok) column = column
+
+picked_by-is : (f : ℕ) (id : TxnId) (view : ℕ) (a : AttemptState) (p : Pick) (column : ColumnState) → picked_by f a.epoch id view p column ≡ record (picked f view (record a { id = id }) p column) { learned = column.learned ++ by_pick id view p }
+picked_by-is f id view a (Known outcome) column = refl
+picked_by-is f id view a (PickLearned outcome) column = refl
+picked_by-is f id view a (PickPropose outcome) column = none-learned (picked_by f a.epoch id view (PickPropose outcome) column) column.learned
+picked_by-is f id view a (PickShort k) column = none-learned column column.learned
+picked_by-is f id view a (PickUnaccepted k) column = none-learned column column.learned
+picked_by-is f id view a (Unclear ok not_ok) column = none-learned column column.learned
+
+-- the pick is that of the takeover that is found
+picked-found : (round : Setting) (id : TxnId) (view : ℕ) (a : AttemptState) (p : Pick) (column : ColumnState) (o : Option TakeoverOf) → option_map (λ t. pick round.faults t.state) o ≡ Some p
+    → record (picked round.faults view a p column) { learned = column.learned ++ by_pick id view p }
+    ≡ record (on_some (λ (t : TakeoverOf) col. picked round.faults view a (pick round.faults t.state) col) o column) { learned = column.learned ++ by_takeover round id view o }
+picked-found round id view a p column None e = absurd (none-some p e)
+picked-found round id view a p column (Some t) e = ap (λ x. record (picked round.faults view a x column) { learned = column.learned ++ by_pick id view x }) (sym (same_Some (pick round.faults t.state) p e))
+
+pub pick-state : (round : Setting) (column : ColumnState) (id : TxnId) (view : ℕ) (s : Attempt) (p : Pick) → option_map shown (attempt_of column id) ≡ Some s → option_map (λ t. pick round.faults t.state) (takeover_of column id view) ≡ Some p
+    → picked_by round.faults s.epoch id view p column ≡ column_after round column (PickStep id view)
+pick-state round column id view s p found is = by_found (attempt_of column id) refl found
+  where
+    by_found : (o : Option AttemptState) → attempt_of column id ≡ o → option_map shown o ≡ Some s
+        → picked_by round.faults s.epoch id view p column ≡ record (on_some (picking round view) o column) { learned = column.learned ++ by_takeover round id view (takeover_of column id view) }
+    by_found None there e = absurd (none-some s e)
+    by_found (Some a) there e =
+        ap (λ (x : Attempt). picked_by round.faults x.epoch id view p column) (sym (same_Some (shown a) s e))
+        ∙ picked_by-is round.faults id view a p column
+        ∙ picked-found round id view (record a { id = id }) p column (takeover_of column id view) is
+        ∙ ap (λ i. record (picking round view (record a { id = i }) column) { learned = column.learned ++ by_takeover round id view (takeover_of column id view) }) (sym (attempt-named column id a there))
+
+pub takeover-state : (round : Setting) (column : ColumnState) (id : TxnId) (view : ℕ) (s : Attempt) → option_map shown (attempt_of column id) ≡ Some s
+    → send (to_all round.faults s.epoch id view Ask) (record column { takeovers = column.takeovers ++ (backup_begun round.faults id view).of ∷ [] }) ≡ column_after round column (Takeover id view)
+takeover-state round column id view s found = by_found (attempt_of column id) refl found
+  where
+    begun : ℕ → TxnId → ColumnState
+    begun epoch i = send (to_all round.faults epoch i view Ask) (record column { takeovers = column.takeovers ++ (backup_begun round.faults i view).of ∷ [] })
+
+    by_found : (o : Option AttemptState) → attempt_of column id ≡ o → option_map shown o ≡ Some s → begun s.epoch id ≡ record (on_some (taken_over round.faults view) o column) { learned = column.learned ++ [] }
+    by_found None there e = absurd (none-some s e)
+    by_found (Some a) there e =
+        ap (λ (x : Attempt). begun x.epoch id) (sym (same_Some (shown a) s e)) ∙ ap (begun a.epoch) (sym (attempt-named column id a there)) ∙ none-learned (begun a.epoch a.id) column.learned

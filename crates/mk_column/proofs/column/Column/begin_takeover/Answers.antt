@@ -1,0 +1,18 @@
+use Rattle.std.proofs.Common.{◌≡◌, None, ◌++◌, refl, sym, ap, ◌∙◌}
+use Rattle.mk_msg.specs.declared.Body.TheVariants.{Ask}
+use Rattle.mk_column.specs.ColumnState.{to_all}
+use Rattle.mk_column.specs.TakeoversByCode.{backup_of, backup_begun, turn_of}
+use Rattle.mk_column.proofs.KeptSteps.{IsKept-takes_over, IsKept-tells}
+use Rattle.mk_column.proofs.TakeoverLaws.{backup-none}
+use Rattle.mk_column.proofs.column.Column.begin_takeover.Goals as goal
+
+pub push-requires : goal.push-requires
+push-requires c =
+    ap (λ b. backup_of (turn_of b) c.self.inside.takeovers) c.begin.ensures
+    ∙ backup-none c.args.turn c.self.inside.takeovers c.args.self.now.state (ap (λ column. column.state.takeovers) (sym c.self.view_is)) c.requires.none
+
+pub invariant_of-self-2 : goal.invariant_of-self-2
+invariant_of-self-2 c =
+    let msgs = to_all c.self.inside.size c.args.epoch c.args.turn.id c.args.turn.view Ask in
+    IsKept-tells c.self.inside.size c.args.epoch c.args.turn.id c.args.turn.view Ask _ _ _ (c.send_to_all.ensures ∙ ap (λ all. all ++ msgs) c.reserve.ensures.same) (λ e. cc e)
+    (IsKept-takes_over c.self.inside.size c.begin.result _ _ _ c.in_ok-push.ensures.ok (ap (λ b. b.faults) c.begin.ensures) c.self.invariant)

@@ -1,0 +1,27 @@
+//! Sending one message to each replica.
+ghost use Rattle.std.specs.Prelude.{◌≡◌, ◌≤◌, ◌++◌};
+ghost use Rattle.mk_quorum.specs.Sizes.{members};
+ghost use Rattle.mk_column.specs.ColumnState.{to_all};
+
+use mk_msg::{Body, Link, Msg};
+use mk_quorum::Size;
+use mk_txn::TxnId;
+
+/// Sends this body to each replica, in order. There must be room.
+pub(crate) fn send_to_all(link: &mut Link, size: Size, epoch: u32, id: TxnId, view: u32, body: Body)
+    requires { members size ≤ link.old.spare }
+    ensures { link.new.messages ≡ link.old.messages ++ to_all size epoch id view body }
+{
+    for replica in 0..size.n() {
+        let msg = Msg {
+            epoch,
+            id,
+            replica,
+            view,
+            body,
+        };
+        if link.send(msg).is_err() {
+            unreachable!();
+        }
+    }
+}
