@@ -1,7 +1,7 @@
 //! The items of an attempt, and what it fetched so far.
-ghost use Rattle.std.specs.Prelude.{◌≡◌, ◌≤◌, true, [], length, take, vec_len, IsSome, IsNone, IfSome, IfOk, OnOk, OnErr};
+ghost use Rattle.std.specs.Prelude.{◌≡◌, ◌≤◌, true, [], length, take, slice_get, vec_len, IsSome, IsNone, IfSome, IfOk, OnOk, OnErr};
 ghost use Rattle.mk_txn.specs.Transactions.{read_keys, write_keys, are_distinct};
-ghost use Rattle.mk_client.specs.Wanted.{wanted_keys, next_wanted, with_read};
+ghost use Rattle.mk_client.specs.Wanted.{wanted_keys, next_wanted as next_of, with_read};
 ghost use Rattle.mk_client.specs.Wanted as spec;
 ghost use Rattle.mk_client.specs.Computed.{writes_of};
 
@@ -47,15 +47,15 @@ impl ClientTxn {
 
     /// The next key to fetch, and `None` where none is left.
     pub fn wanted(&self) -> Option<u32>
-        ensures { result ≡ next_wanted self.now.items self.now.reads }
+        ensures { result ≡ next_of self.now.items self.now.reads }
     {
         self.wanted.get(self.reads.len()).copied()
     }
 
     /// Takes the version and the value of the key that is wanted.
     pub fn take(&mut self, version: Stamp, value: Value) -> Result<(), NoMemory>
-        requires { IsSome (next_wanted self.old.items self.old.reads) }
-        ensures ok { OnOk result (IfSome (next_wanted self.old.items self.old.reads) (λ key. self.new ≡ with_read self.old key version value)) }
+        requires { IsSome (next_of self.old.items self.old.reads) }
+        ensures ok { OnOk result (IfSome (next_of self.old.items self.old.reads) (λ key. self.new ≡ with_read self.old key version value)) }
         ensures err { OnErr result (self.new ≡ self.old) }
     {
         let key = self.wanted().unwrap();
@@ -79,17 +79,48 @@ impl ClientTxn {
 
     /// What the attempt writes, computed from what it fetched: at most 16 keys, each once.
     pub fn writes(&self, procs: &Procs) -> Result<Vec<WriteItem>, NoMemory>
-        requires { IsNone (next_wanted self.now.items self.now.reads) }
+        requires { IsNone (next_of self.now.items self.now.reads) }
         ensures writes { IfOk result (λ writes. writes.items ≡ writes_of self.now.items self.now.reads) }
         ensures distinct { IfOk result (λ writes. are_distinct (write_keys writes.items) ≡ true) }
         ensures few { IfOk result (λ writes. vec_len writes ≤ 16) }
     {
-        let mut buffer = Buffer::new(*self.items.allocator());
-        for item in &self.items {
-            buffer.take_item(item, &self.reads, procs)?;
-        }
-        Ok(buffer.into_writes())
+        computed_writes(*self.items.allocator(), &self.items, &self.reads, procs)
     }
+}
+
+/// What these items, at most 16, write once these keys were fetched: at most 16 keys, each once.
+pub fn computed_writes(
+    alloc: Global,
+    items: &[Item],
+    reads: &[ReadItem],
+    procs: &Procs,
+) -> Result<Vec<WriteItem>, NoMemory>
+    requires { length items.now ≤ 16 }
+    ensures writes { IfOk result (λ writes. writes.items ≡ writes_of items.now reads.now) }
+    ensures distinct { IfOk result (λ writes. are_distinct (write_keys writes.items) ≡ true) }
+    ensures few { IfOk result (λ writes. vec_len writes ≤ 16) }
+{
+    let mut buffer = Buffer::new(alloc);
+    for item in items {
+        buffer.take_item(item, reads, procs)?;
+    }
+    Ok(buffer.into_writes())
+}
+
+/// The key that these items fetch once so many keys were fetched, and `None` where none is left.
+pub fn next_wanted(items: &[Item], fetched: usize) -> Option<u32>
+    ensures { result ≡ slice_get (wanted_keys items.now) fetched }
+{
+    let mut left = fetched;
+    for (place, item) in items.iter().enumerate() {
+        if is_fetched(&items[..place], item) {
+            if left == 0 {
+                return Some(item.key());
+            }
+            left -= 1;
+        }
+    }
+    None
 }
 
 // The keys that these items fetch, in order.

@@ -6,4 +6,4 @@ mod buffer;
 #[cfg(test)]
 mod tests;
 
-pub use attempt::ClientTxn;
+pub use attempt::{ClientTxn, computed_writes, next_wanted};

@@ -38,3 +38,12 @@ mod WipedAndReadmitted
 mod TakeoverCommits
 mod DeletedAndWritten
 mod ForgottenTeachesNothing
+mod PassesSuffice
+mod Passing
+mod InOrder
+mod Delivering
+mod CallerLaws
+mod Staging
+mod Reading
+mod TrialLaws
+mod PartLaws

@@ -1,13 +1,11 @@
 -- What comes of a task, and how a driver changes: its lists of messages, its clients and their attempts.
-use Rattle.std.specs.Prelude.{ℕ, Bool, not, ◌==◌, nat_lt, List, [], ◌∷◌, ◌++◌, filter, Option, find, if◌then◌else◌}
+use Rattle.std.specs.Prelude.{ℕ, ◌+◌, ◌-◌, Bool, ◌==◌, nat_lt, List, [], ◌∷◌, ◌++◌, length, replicate, slice_get, slice_set, Option, Some, None, find, if◌then◌else◌}
 use Rattle.mk_lists.specs.Changed.{change}
 use Rattle.mk_txn.specs.declared.TxnId.{TxnId}
-use Rattle.mk_txn.specs.Transactions.{same_id}
 use Rattle.mk_column.specs.declared.Step.{Step}
 use Rattle.mk_driver.specs.declared.Task.{Task}
 use Rattle.mk_driver.specs.declared.Part.{Part}
 use Rattle.mk_driver.specs.declared.Request.{Request}
-use Rattle.mk_driver.specs.declared.Trial.{Trial}
 use Rattle.mk_driver.specs.declared.Caller.{Caller}
 use Rattle.mk_driver.specs.declared.DriverState.{DriverState}
 
@@ -24,25 +22,35 @@ is_caller number caller = caller.number == number
 abbrev pub change_caller : ℕ → (Caller → Caller) → DriverState → DriverState
 change_caller number f driver = record driver { callers = change (is_caller number) f driver.callers }
 
--- the trial is of this attempt
-abbrev pub is_trial : TxnId → Trial → Bool
-is_trial id trial = same_id trial.id id
+-- what was asked for, where there is a place for it
+abbrev pub asked : Option (Option Request) → Option Request
+asked (Some trial) = trial
+asked None = None
 
--- the trial is of another attempt
-abbrev pub is_other_trial : TxnId → Trial → Bool
-is_other_trial id trial = not (is_trial id trial)
+-- what the client's attempt of this place was asked for, while its own coordinator is not known to have learned
+abbrev pub trial_in : List (Option Request) → ℕ → Option Request
+trial_in trials seq = asked (slice_get trials seq)
 
--- the trial of this attempt
-abbrev pub trial_of : TxnId → DriverState → Option Trial
-trial_of id driver = find (is_trial id) driver.trials
+-- of the client that was found
+abbrev pub trial_by : ℕ → Option Caller → Option Request
+trial_by seq (Some caller) = trial_in caller.trials seq
+trial_by seq None = None
 
--- a trial begins
-abbrev pub with_trial : TxnId → Request → DriverState → DriverState
-with_trial id request driver = record driver { trials = driver.trials ++ record { id = id; request = request } ∷ [] }
+-- what the attempt was asked for
+abbrev pub trial_of : TxnId → DriverState → Option Request
+trial_of id driver = trial_by id.seq (find (is_caller id.client) driver.callers)
 
--- the trial of this attempt ends
-abbrev pub without_trial : TxnId → DriverState → DriverState
-without_trial id driver = record driver { trials = filter (is_other_trial id) driver.trials }
+-- the trials with a place for this one
+abbrev pub with_place : ℕ → List (Option Request) → List (Option Request)
+with_place seq trials = trials ++ replicate (seq + 1 - length trials) None
+
+-- the trials with one at this place
+abbrev pub put_trial : ℕ → Option Request → List (Option Request) → List (Option Request)
+put_trial seq trial trials = slice_set (with_place seq trials) seq trial
+
+-- the trials with none at this place
+abbrev pub end_trial : ℕ → List (Option Request) → List (Option Request)
+end_trial seq trials = slice_set trials seq None
 
 -- a number put into an ascending list
 abbrev pub in_order : ℕ → List ℕ → List ℕ

@@ -14,9 +14,8 @@ use Rattle.mk_driver.specs.declared.Task.{Task}
 use Rattle.mk_driver.specs.declared.Task.TheVariants.{Deliver as DeliverTask, DeliverSince, Take as TakeTask, Notice, Late as LateTask}
 use Rattle.mk_driver.specs.declared.DriverState.{DriverState}
 use Rattle.mk_driver.specs.declared.Request.{Request}
-use Rattle.mk_driver.specs.declared.Trial.{Trial}
 use Rattle.mk_driver.specs.declared.Caller.{Caller}
-use Rattle.mk_driver.specs.Agenda.{Worked, change_caller, trial_of, without_trial, with_held, with_late}
+use Rattle.mk_driver.specs.Agenda.{Worked, change_caller, trial_in, end_trial, with_held, with_late}
 use Rattle.mk_driver.specs.Agenda.Worked.{Quiet, Names}
 
 -- after a step of this attempt: whether its own coordinator has learned an abort, and the messages that the step sends
@@ -55,21 +54,30 @@ abbrev pub taking_late : ColumnState → List ℕ → DriverState → Worked
 taking_late column [] driver = Quiet driver
 taking_late column (number ∷ numbers) driver = taking column number (LateTask ∷ []) (record driver { late = numbers })
 
--- a transaction whose own coordinator learned Abort joins the retries of its client while it has tries left
-abbrev pub with_retry : ℕ → Request → Caller → Caller
-with_retry tries request caller = record caller { retries = caller.retries ++ record request { tries = tries } ∷ [] }
+-- these retries with one more, where tries are left
+abbrev pub with_tries : ℕ → Request → List Request → List Request
+with_tries zero request retries = retries
+with_tries (suc tries) request retries = retries ++ record request { tries = tries } ∷ []
 
--- where tries are left
-abbrev pub retried : ℕ → Trial → DriverState → DriverState
-retried zero trial driver = driver
-retried (suc tries) trial driver = change_caller trial.id.client (with_retry tries trial.request) driver
+-- these retries once an attempt that was asked for this learned an abort
+abbrev pub retries_after : Option Request → List Request → List Request
+retries_after None retries = retries
+retries_after (Some request) retries = with_tries request.tries request retries
 
--- what a learned outcome does to the attempt's trial
-abbrev pub noticed : TxnId → Option Outcome → Option Trial → DriverState → DriverState
-noticed id (Some (Abort cause)) (Some trial) driver = retried trial.request.tries trial (without_trial id driver)
-noticed id (Some Commit) (Some trial) driver = without_trial id driver
-noticed id None (Some trial) driver = driver
-noticed id outcome None driver = driver
+-- the client's attempt of this place is done
+abbrev pub done_with : ℕ → Caller → Caller
+done_with seq caller = record caller { trials = end_trial seq caller.trials }
+
+-- what the client's attempt of this place was asked for joins the retries while it has tries left
+abbrev pub tried_again : ℕ → Caller → Caller
+tried_again seq caller =
+    record caller { trials = end_trial seq caller.trials; retries = retries_after (trial_in caller.trials seq) caller.retries }
+
+-- what a learned outcome does: a transaction whose own coordinator learned Abort is tried again
+abbrev pub noticed : TxnId → Option Outcome → DriverState → DriverState
+noticed id (Some (Abort cause)) driver = change_caller id.client (tried_again id.seq) driver
+noticed id (Some Commit) driver = change_caller id.client (done_with id.seq) driver
+noticed id None driver = driver
 
 -- what the own coordinator of this attempt has learned
 abbrev pub learned_by : Option AttemptState → Option Outcome
@@ -82,4 +90,4 @@ own_learned column id = learned_by (attempt_of column id)
 
 -- the driver looks whether the attempt's own coordinator has learned
 abbrev pub noticing : ColumnState → TxnId → DriverState → Worked
-noticing column id driver = Quiet (noticed id (own_learned column id) (trial_of id driver) driver)
+noticing column id driver = Quiet (noticed id (own_learned column id) driver)

@@ -36,13 +36,13 @@ abbrev pub callers_from : ℕ → ℕ → List ClientLine → List Caller
 callers_from column number [] = []
 callers_from column number (line ∷ lines) =
     if line.column == column
-    then record { number = number; home = line.home; under_way = None; retries = []; lines = [] } ∷ callers_from column (number + 1) lines
+    then record { number = number; home = line.home; under_way = None; retries = []; lines = []; trials = [] } ∷ callers_from column (number + 1) lines
     else callers_from column (number + 1) lines
 
 -- the driver of a column before the first round
 abbrev pub new_driver : ScriptParts → ℕ → DriverState
 new_driver script column =
-    record { agenda = []; parts = []; late = []; held = []; takeovers = []; callers = callers_from column 1 script.clients; trials = [] }
+    record { agenda = []; parts = []; late = []; held = []; takeovers = []; callers = callers_from column 1 script.clients }
 
 -- the line is of this client
 abbrev pub is_line_of : ℕ → TxnLine → Bool

@@ -1,14 +1,13 @@
 -- Settling attempts and takeovers, what a later round begins with, and takeover lines.
-use Rattle.std.specs.Prelude.{ℕ, ◌-◌, Bool, true, false, not, ◌&&◌, List, [], ◌∷◌, ◌++◌, map, length, filter, flat_map, Option, Some, None, is_none}
+use Rattle.std.specs.Prelude.{ℕ, ◌-◌, Bool, true, false, not, ◌&&◌, List, [], ◌∷◌, ◌++◌, length, Option, Some, None, is_none}
 use Rattle.std.specs.List.{list_any}
 use Rattle.mk_txn.specs.declared.TxnId.{TxnId}
 use Rattle.mk_txn.specs.declared.Outcome.{Outcome}
 use Rattle.mk_column.specs.declared.Step.TheVariants.{Validate, Rule, Again, Takeover, Pick}
-use Rattle.mk_column.specs.ColumnState.{Setting, ColumnState, AttemptState, ClientState, TakeoverOf, attempt_of, client_of, numbers_from}
+use Rattle.mk_column.specs.ColumnState.{Setting, ColumnState, AttemptState, ClientState, attempt_of, numbers_from}
 use Rattle.mk_column.specs.Conditions.{blocked, is_validate_of}
 use Rattle.mk_driver.specs.declared.Task.TheVariants.{DeliverSince, Settle, SettleTakeover}
 use Rattle.mk_driver.specs.declared.DriverState.{DriverState}
-use Rattle.mk_driver.specs.declared.Caller.{Caller}
 use Rattle.mk_driver.specs.Agenda.{Worked}
 use Rattle.mk_driver.specs.Agenda.Worked.{Quiet, Names}
 use Rattle.mk_driver.specs.Delivery.{follow_ups}
@@ -17,14 +16,10 @@ use Rattle.mk_driver.specs.Delivery.{follow_ups}
 abbrev pub was_validated : ColumnState → TxnId → Bool
 was_validated column id = list_any (is_validate_of id) column.link
 
--- the ids of the column's attempts, by client and then by seq
-abbrev pub ids_of : Option ClientState → List TxnId
-ids_of (Some client) = map (λ seq. record { client = client.number; seq = seq }) (numbers_from 1 (client.next_seq - 1))
-ids_of None = []
-
--- the ids of all clients' attempts, in order
-abbrev pub ids_in_order : ColumnState → List Caller → List TxnId
-ids_in_order column callers = flat_map (λ caller. ids_of (client_of column caller.number)) callers
+-- the places of a client's attempts
+abbrev pub seqs_of : Option ClientState → List ℕ
+seqs_of (Some client) = numbers_from 1 (client.next_seq - 1)
+seqs_of None = []
 
 -- by the first condition of Rule that fails
 abbrev pub settle_by : ColumnState → TxnId → Option ℕ → DriverState → Worked
@@ -61,20 +56,16 @@ resume_with column id (Some outcome) driver = Names (Again id) (DeliverSince (le
 resume_with column id None driver = Names (Validate id) (DeliverSince (length column.link) ∷ (Settle id ∷ [])) driver
 
 -- where it goes on at all
-abbrev pub resume_if : ColumnState → AttemptState → Bool → DriverState → Worked
-resume_if column attempt true driver = resume_with column attempt.id attempt.coord.proposed driver
-resume_if column attempt false driver = Quiet driver
+abbrev pub resume_if : ColumnState → TxnId → AttemptState → Bool → DriverState → Worked
+resume_if column id attempt true driver = resume_with column id attempt.coord.proposed driver
+resume_if column id attempt false driver = Quiet driver
 
 -- where it is there
-abbrev pub resume_by : ColumnState → Option AttemptState → DriverState → Worked
-resume_by column (Some attempt) driver =
-    resume_if column attempt (was_validated column attempt.id && not attempt.stopped && is_none attempt.coord.learned) driver
-resume_by column None driver = Quiet driver
+abbrev pub resume_by : ColumnState → TxnId → Option AttemptState → DriverState → Worked
+resume_by column id (Some attempt) driver =
+    resume_if column id attempt (was_validated column id && not attempt.stopped && is_none attempt.coord.learned) driver
+resume_by column id None driver = Quiet driver
 
 -- Again where the attempt has proposed, else Validate
 abbrev pub resuming : ColumnState → TxnId → DriverState → Worked
-resuming column id driver = resume_by column (attempt_of column id) driver
-
--- the takeovers that are not closed, in the order begun
-abbrev pub open_takeovers : ColumnState → List TakeoverOf
-open_takeovers column = filter (λ takeover. not takeover.closed) column.takeovers
+resuming column id driver = resume_by column id (attempt_of column id) driver

@@ -2,11 +2,12 @@
 use Rattle.std.specs.Prelude.{ℕ, ◌+◌, ◌%◌, Bool, true, false, List, [], ◌∷◌, ◌++◌, map, length, Option, Some, None, find, slice_get}
 use Rattle.mk_txn.specs.declared.TxnId.{TxnId}
 use Rattle.mk_txn.specs.declared.Outcome.{Outcome}
+use Rattle.mk_txn.specs.declared.ReadItem.{ReadItem}
 use Rattle.mk_quorum.specs.Sizes.{members}
 use Rattle.mk_quorum.specs.Slots.{passes}
 use Rattle.mk_coord.specs.declared.Ruling.{Ruling}
 use Rattle.mk_coord.specs.declared.Ruling.TheVariants.{Fast, Propose, Learned, Short, Unaccepted}
-use Rattle.mk_coord.specs.Rulings.{ruling}
+use Rattle.mk_coord.specs.Rulings.{CoordState, ruling}
 use Rattle.mk_script.specs.declared.lines.Point.{Point}
 use Rattle.mk_script.specs.declared.lines.Point.TheVariants.{Read as AfterRead, Votes as AfterVotes, Accepts as AfterAccepts}
 use Rattle.mk_client.specs.Wanted.{next_wanted}
@@ -16,15 +17,13 @@ use Rattle.mk_column.specs.declared.Step.{Step}
 use Rattle.mk_column.specs.declared.Step.TheVariants.{Begin, Unread, Read, Stamp, Validate, Rule, Stop}
 use Rattle.mk_column.specs.ColumnState.{Setting, ColumnState, AttemptState, ClientState, attempt_of, client_of, numbers_from}
 use Rattle.mk_column.specs.Conditions.{blocked, serves_from}
-use Rattle.mk_column.specs.Steps.{next_id}
 use Rattle.mk_driver.specs.declared.Task.{Task}
 use Rattle.mk_driver.specs.declared.Task.TheVariants.{DeliverSince, Fetch, Reach}
 use Rattle.mk_driver.specs.declared.DriverState.{DriverState}
 use Rattle.mk_driver.specs.declared.Request.{Request}
-use Rattle.mk_driver.specs.declared.Trial.{Trial}
 use Rattle.mk_driver.specs.declared.Caller.{Caller}
 use Rattle.mk_driver.specs.declared.Stage.{Stage}
-use Rattle.mk_driver.specs.Agenda.{Worked, change_caller, trial_of, with_trial}
+use Rattle.mk_driver.specs.Agenda.{Worked, change_caller, trial_of, put_trial}
 use Rattle.mk_driver.specs.Agenda.Worked.{Quiet, Names}
 use Rattle.mk_driver.specs.Delivery.{follow_ups}
 
@@ -42,32 +41,48 @@ from_home f home = map (λ i. (home + i) % members f) (numbers_from 0 (members f
 abbrev pub reader_for : Setting → ℕ → ℕ → Option ℕ
 reader_for round home heard = find (λ r. passes (serves_from heard) (slice_get round.views r)) (from_home round.faults home)
 
+-- the next transaction of a client's list: its retries, then its txn lines
+abbrev pub next_request : Caller → Option Request
+next_request caller = slice_get (caller.retries ++ caller.lines) 0
+
+-- the list without its first
+abbrev pub after_request : List Request → List Request
+after_request [] = []
+after_request (request ∷ requests) = requests
+
+-- once there are no retries, the next is a txn line
+abbrev pub without_request_by : List Request → Caller → Caller
+without_request_by [] caller = record caller { lines = after_request caller.lines }
+without_request_by (request ∷ requests) caller = record caller { retries = requests }
+
+-- the client's list without its next
+abbrev pub without_request : Caller → Caller
+without_request caller = without_request_by caller.retries caller
+
+-- this is what the client's attempt of this place is asked for
+abbrev pub with_trial : ℕ → Option Request → Caller → Caller
+with_trial seq request caller = record caller { trials = put_trial seq request caller.trials }
+
+-- the next transaction of the client's list becomes that of its attempt of this place
+abbrev pub begun : ℕ → Caller → Caller
+begun seq caller = with_trial seq (next_request caller) (without_request caller)
+
 -- stage 1
-abbrev pub begin_by : ClientState → Request → Option ℕ → DriverState → Turn
-begin_by client request (Some replica) driver =
-    Steps (Begin client.number replica) (Fetch (next_id client) ∷ []) (with_trial (next_id client) request driver)
-begin_by client request None driver = Steps (Unread client.number) [] driver
+abbrev pub begin_by : ClientState → Caller → Option ℕ → DriverState → Turn
+begin_by client caller (Some replica) driver =
+    Steps (Begin caller.number replica) (Fetch (record { client = caller.number; seq = client.next_seq }) ∷ [])
+    (change_caller caller.number (begun client.next_seq) driver)
+begin_by client caller None driver = Steps (Unread caller.number) [] (change_caller caller.number without_request driver)
 
 -- with the client as its column knows it
-abbrev pub begin_of : Setting → Option ClientState → Caller → Request → DriverState → Turn
-begin_of round (Some client) caller request driver = begin_by client request (reader_for round caller.home client.heard) driver
-begin_of round None caller request driver = Nothing
+abbrev pub begin_of : Setting → Option ClientState → Caller → DriverState → Turn
+begin_of round (Some client) caller driver = begin_by client caller (reader_for round caller.home client.heard) driver
+begin_of round None caller driver = Nothing
 
--- the client's retries become these
-abbrev pub with_retries : List Request → Caller → Caller
-with_retries requests caller = record caller { retries = requests }
-
--- the client's lines become these
-abbrev pub with_lines : List Request → Caller → Caller
-with_lines requests caller = record caller { lines = requests }
-
--- the next transaction of a client's list: its retries, then its txn lines
-abbrev pub begin_next : Setting → ColumnState → Caller → List Request → List Request → DriverState → Turn
-begin_next round column caller (request ∷ retries) lines driver =
-    begin_of round (client_of column caller.number) caller request (change_caller caller.number (with_retries retries) driver)
-begin_next round column caller [] (request ∷ lines) driver =
-    begin_of round (client_of column caller.number) caller request (change_caller caller.number (with_lines lines) driver)
-begin_next round column caller [] [] driver = Nothing
+-- where there is a next transaction
+abbrev pub begin_next : Setting → ColumnState → Caller → Option Request → DriverState → Turn
+begin_next round column caller (Some request) driver = begin_of round (client_of column caller.number) caller driver
+begin_next round column caller None driver = Nothing
 
 -- no attempt of this client is under way
 abbrev pub resting : Caller → Caller
@@ -99,28 +114,34 @@ closed_by column caller id (Short k) driver = Silent (left caller driver)
 closed_by column caller id (Unaccepted k) driver = Silent (left caller driver)
 
 -- where it learned meanwhile, it is done
-abbrev pub stage_three : Setting → ColumnState → Caller → AttemptState → Option Outcome → DriverState → Turn
-stage_three round column caller attempt (Some outcome) driver = Silent (left caller driver)
-stage_three round column caller attempt None driver = ruled_by column caller attempt.id (ruling round.faults attempt.coord) driver
+abbrev pub stage_three : Setting → ColumnState → Caller → TxnId → CoordState → Option Outcome → DriverState → Turn
+stage_three round column caller id coord (Some outcome) driver = Silent (left caller driver)
+stage_three round column caller id coord None driver = ruled_by column caller id (ruling round.faults coord) driver
 
 -- and stage 4, likewise
-abbrev pub stage_four : Setting → ColumnState → Caller → AttemptState → Option Outcome → DriverState → Turn
-stage_four round column caller attempt (Some outcome) driver = Silent (left caller driver)
-stage_four round column caller attempt None driver = closed_by column caller attempt.id (ruling round.faults attempt.coord) driver
+abbrev pub stage_four : Setting → ColumnState → Caller → TxnId → CoordState → Option Outcome → DriverState → Turn
+stage_four round column caller id coord (Some outcome) driver = Silent (left caller driver)
+stage_four round column caller id coord None driver = closed_by column caller id (ruling round.faults coord) driver
+
+-- stage 2
+abbrev pub validated : ColumnState → Caller → TxnId → DriverState → Turn
+validated column caller id driver =
+    Steps (Validate id) (DeliverSince (length column.link) ∷ (Reach id AfterVotes ∷ [])) (left caller driver)
 
 -- the stage after the one that was done
-abbrev pub stage_after : Setting → ColumnState → Caller → Point → Option AttemptState → DriverState → Turn
-stage_after round column caller AfterRead (Some attempt) driver =
-    Steps (Validate attempt.id) (DeliverSince (length column.link) ∷ (Reach attempt.id AfterVotes ∷ [])) (left caller driver)
-stage_after round column caller AfterVotes (Some attempt) driver = stage_three round column caller attempt attempt.coord.learned driver
-stage_after round column caller AfterAccepts (Some attempt) driver = stage_four round column caller attempt attempt.coord.learned driver
-stage_after round column caller point None driver = Silent (left caller driver)
+abbrev pub stage_after : Setting → ColumnState → Caller → TxnId → Point → Option AttemptState → DriverState → Turn
+stage_after round column caller id AfterRead (Some attempt) driver = validated column caller id driver
+stage_after round column caller id AfterVotes (Some attempt) driver =
+    stage_three round column caller id attempt.coord attempt.coord.learned driver
+stage_after round column caller id AfterAccepts (Some attempt) driver =
+    stage_four round column caller id attempt.coord attempt.coord.learned driver
+stage_after round column caller id point None driver = Silent (left caller driver)
 
 -- an attempt under way goes on, and else the next one begins
 abbrev pub turn_by : Setting → ColumnState → Caller → Option Stage → DriverState → Turn
 turn_by round column caller (Some stage) driver =
-    stage_after round column caller stage.reached (attempt_of column stage.id) driver
-turn_by round column caller None driver = begin_next round column caller caller.retries caller.lines driver
+    stage_after round column caller stage.id stage.reached (attempt_of column stage.id) driver
+turn_by round column caller None driver = begin_next round column caller (next_request caller) driver
 
 -- a client's turn
 abbrev pub turn_of : Setting → ColumnState → Option Caller → DriverState → Turn
@@ -128,21 +149,21 @@ turn_of round column (Some caller) driver = turn_by round column caller caller.u
 turn_of round column None driver = Nothing
 
 -- the reads that are left, in order, then the stamp
-abbrev pub fetch_by : AttemptState → Request → Option ℕ → DriverState → Worked
-fetch_by attempt request (Some key) driver = Names (Read attempt.id key) (Fetch attempt.id ∷ []) driver
-fetch_by attempt request None driver =
-    Names (Stamp attempt.id request.clock (writes_of request.items attempt.reads)) (Reach attempt.id AfterRead ∷ []) driver
+abbrev pub fetch_by : TxnId → List ReadItem → Request → Option ℕ → DriverState → Worked
+fetch_by id reads request (Some key) driver = Names (Read id key) (Fetch id ∷ []) driver
+fetch_by id reads request None driver =
+    Names (Stamp id request.clock (writes_of request.items reads)) (Reach id AfterRead ∷ []) driver
 
--- of an attempt and its trial
-abbrev pub fetching : Option AttemptState → Option Trial → DriverState → Worked
-fetching (Some attempt) (Some trial) driver =
-    fetch_by attempt trial.request (next_wanted trial.request.items attempt.reads) driver
-fetching (Some attempt) None driver = Quiet driver
-fetching None trial driver = Quiet driver
+-- of an attempt and what it was asked for
+abbrev pub fetching : TxnId → Option AttemptState → Option Request → DriverState → Worked
+fetching id (Some attempt) (Some request) driver =
+    fetch_by id attempt.reads request (next_wanted request.items attempt.reads) driver
+fetching id (Some attempt) None driver = Quiet driver
+fetching id None request driver = Quiet driver
 
 -- the attempt of this number fetches
 abbrev pub fetch_work : ColumnState → TxnId → DriverState → Worked
-fetch_work column id driver = fetching (attempt_of column id) (trial_of id driver) driver
+fetch_work column id driver = fetching id (attempt_of column id) (trial_of id driver) driver
 
 -- the two points are the same
 abbrev pub same_point : Point → Point → Bool

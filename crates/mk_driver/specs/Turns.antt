@@ -1,8 +1,9 @@
 -- The one step that the driver's turns name next.
-use Rattle.std.specs.Prelude.{◌+◌, List, [], ◌∷◌, ◌++◌, map, length, filter, false, Option, Some, None}
+use Rattle.std.specs.Prelude.{ℕ, ◌+◌, List, [], ◌∷◌, ◌++◌, flat_map, length, false, Option, Some, None, if◌then◌else◌}
+use Rattle.mk_txn.specs.declared.TxnId.{TxnId}
 use Rattle.mk_faults.specs.Fates.{RuleLines}
 use Rattle.mk_column.specs.declared.KeyCall.{KeyCall}
-use Rattle.mk_column.specs.ColumnState.{Setting, ColumnState}
+use Rattle.mk_column.specs.ColumnState.{Setting, ColumnState, client_of, numbers_from, open_at}
 use Rattle.mk_column.specs.Conditions.{wanted}
 use Rattle.mk_driver.specs.declared.Next.{Next}
 use Rattle.mk_driver.specs.declared.Next.TheVariants.{Step as StepNext, Key as KeyNext, Over}
@@ -15,7 +16,7 @@ use Rattle.mk_driver.specs.Agenda.{Worked}
 use Rattle.mk_driver.specs.Agenda.Worked.{Quiet, Names}
 use Rattle.mk_driver.specs.Delivery.{delivering_from, taking, taking_late, noticing}
 use Rattle.mk_driver.specs.Stages.{fetch_work, reaching}
-use Rattle.mk_driver.specs.Settling.{was_validated, ids_in_order, settling, settling_takeover, taking_over, resuming, open_takeovers}
+use Rattle.mk_driver.specs.Settling.{was_validated, seqs_of, settling, settling_takeover, taking_over, resuming}
 use Rattle.mk_driver.specs.Passes.{turns}
 
 -- what comes of a task
@@ -33,15 +34,31 @@ work_on rules round column Late driver = taking_late column driver.late driver
 work_on rules round column (Settle id) driver = settling round column id driver
 work_on rules round column (SettleTakeover id view) driver = settling_takeover round column id view driver
 
--- the tasks with which a part begins
+-- what is done in a part with an attempt
+abbrev pub attempt_task : ColumnState → Part → TxnId → List Task
+attempt_task column ResumePart id = Resume id ∷ []
+attempt_task column SettlePart id = if was_validated column id then Settle id ∷ [] else []
+attempt_task column part id = []
+
+-- and with a client's attempts, in order
+abbrev pub attempt_tasks : ColumnState → Part → ℕ → List Task
+attempt_tasks column part client =
+    flat_map (λ seq. attempt_task column part (record { client = client; seq = seq })) (seqs_of (client_of column client))
+
+-- an open takeover is settled
+abbrev pub open_task : Option (TxnId × ℕ) → List Task
+open_task (Some turn) = SettleTakeover turn.0 turn.1 ∷ []
+open_task None = []
+
+-- the tasks with which a part begins: attempts come by client and then by place, and takeovers in the order begun
 abbrev pub tasks_of : ColumnState → DriverState → Part → List Task
-tasks_of column driver ResumePart = map (λ id. Resume id) (ids_in_order column driver.callers)
+tasks_of column driver ResumePart = flat_map (λ caller. attempt_tasks column ResumePart caller.number) driver.callers
 tasks_of column driver TurnsPart = Turns 0 false ∷ []
-tasks_of column driver TakeoversPart = map (λ line. Takeover line.id line.view) driver.takeovers
+tasks_of column driver TakeoversPart = flat_map (λ line. Takeover line.id line.view ∷ []) driver.takeovers
 tasks_of column driver LatePart = Late ∷ []
 tasks_of column driver SettlePart =
-    map (λ id. Settle id) (filter (was_validated column) (ids_in_order column driver.callers))
-    ++ map (λ takeover. SettleTakeover takeover.id takeover.state.view) (open_takeovers column)
+    flat_map (λ caller. attempt_tasks column SettlePart caller.number) driver.callers
+    ++ flat_map (λ place. open_task (open_at column place)) (numbers_from 0 (length column.takeovers))
 
 -- what is named, and the driver once it is named
 pub record Choice : Type 0 where

@@ -1,10 +1,23 @@
 //! The driver of a column: which step comes next.
 #![tactic(auto)]
 
+mod ascending;
+mod asked;
+mod beginning;
+mod clients;
+mod delivery;
+mod passes;
+mod settling;
+mod stages;
+mod stepping;
+mod tasks;
+mod views;
+
 use mk_column::{KeyCall, Step};
 use mk_proc::Item;
-use mk_script::{Lines, Point, TakeoverLine};
+use mk_script::{Point, TakeoverLine};
 use mk_txn::TxnId;
+use std::collections::VecDeque;
 use std::marker::Model;
 
 /// What comes next at a column: a step, a key call that is wanted, or nothing more in this round.
@@ -81,18 +94,37 @@ impl Model for Parts {
     ghost view = { λ p. reverse p.stack.items };
 }
 
+/// What a client did in its turn.
+#[derive(Drop)]
+pub(crate) enum Turned {
+    Nothing,
+    Silent,
+    Stepped(Step),
+}
+
+/// How a pass over the clients ends: at a step, with no step, or for want of memory at a client's turn.
+#[derive(Drop)]
+pub(crate) enum Passed {
+    Stepped(Step),
+    Ended(bool),
+    Stuck { place: usize, did: bool },
+}
+
 /// Numbers of messages, ascending.
 #[derive(Drop)]
 pub struct Numbers {
-    list: Vec<u64>,
+    list: VecDeque<u64>,
 }
 
 impl Model for Numbers {
     ghost use Rattle.std.specs.Prelude.{List, ℕ};
+    ghost use Rattle.mk_driver.specs.Keeping.{IsAscending};
 
     ghost Value = { List ℕ };
 
     ghost view = { λ n. n.list.items };
+
+    ghost invariant = { λ n. IsAscending n.list.items };
 }
 
 #[derive(Drop)]
@@ -109,17 +141,34 @@ impl Model for TakeoverList {
     ghost view = { λ l. l.list.items };
 }
 
+/// The items of a transaction, at most 16.
+#[derive(Drop)]
+pub struct Items {
+    list: Vec<Item>,
+}
+
+impl Model for Items {
+    ghost use Rattle.std.specs.Prelude.{List, ◌≤◌, length};
+    ghost use Rattle.mk_proc.specs.declared.Item.{Item};
+
+    ghost Value = { List Item };
+
+    ghost view = { λ items. items.list.items };
+
+    ghost invariant = { λ items. length items.list.items ≤ 16 };
+}
+
 /// A transaction that a client is to do, with the tries that are left after the next one.
 #[derive(Drop)]
 pub struct Request {
     pub clock: u64,
-    pub items: Lines<Item>,
+    pub items: Items,
     pub tries: u32,
 }
 
 #[derive(Drop)]
 pub struct Requests {
-    list: Vec<Request>,
+    list: VecDeque<Request>,
 }
 
 impl Model for Requests {
@@ -131,23 +180,17 @@ impl Model for Requests {
     ghost view = { λ r. r.list.items };
 }
 
-/// An attempt whose own coordinator is not known to have learned.
-#[derive(Drop)]
-pub struct Trial {
-    pub id: TxnId,
-    pub request: Request,
-}
-
+/// What each attempt of a client was asked for, by its place, while its own coordinator is not known to have learned.
 #[derive(Drop)]
 pub struct Trials {
-    list: Vec<Trial>,
+    list: Vec<Option<Request>>,
 }
 
 impl Model for Trials {
-    ghost use Rattle.std.specs.Prelude.{List};
-    ghost use Rattle.mk_driver.specs.declared.Trial.{Trial};
+    ghost use Rattle.std.specs.Prelude.{List, Option};
+    ghost use Rattle.mk_driver.specs.declared.Request.{Request};
 
-    ghost Value = { List Trial };
+    ghost Value = { List (Option Request) };
 
     ghost view = { λ t. t.list.items };
 }
@@ -167,8 +210,10 @@ pub struct Caller {
     pub under_way: Option<Stage>,
     pub retries: Requests,
     pub lines: Requests,
+    pub trials: Trials,
 }
 
+/// The clients of a column, in order of number.
 #[derive(Drop)]
 pub struct Callers {
     list: Vec<Caller>,
@@ -177,10 +222,13 @@ pub struct Callers {
 impl Model for Callers {
     ghost use Rattle.std.specs.Prelude.{List};
     ghost use Rattle.mk_driver.specs.declared.Caller.{Caller};
+    ghost use Rattle.mk_driver.specs.Keeping.{IsRising, numbers_of};
 
     ghost Value = { List Caller };
 
     ghost view = { λ c. c.list.items };
+
+    ghost invariant = { λ c. IsRising (numbers_of c.list.items) };
 }
 
 /// The tasks left in the part that is under way, the parts that are left, and the two lists of messages.
@@ -192,5 +240,4 @@ pub struct DriverState {
     pub held: Numbers,
     pub takeovers: TakeoverList,
     pub callers: Callers,
-    pub trials: Trials,
 }

@@ -1,0 +1,24 @@
+-- What the driver's lists keep.
+use Rattle.std.specs.Prelude.{ℕ, ◌<◌, ◌≤◌, List, [], ◌∷◌, map, Option, Some, None}
+use Rattle.mk_lists.specs.Among.{Each}
+use Rattle.mk_driver.specs.declared.Task.{Task}
+use Rattle.mk_driver.specs.declared.Caller.{Caller}
+
+-- each number is at most those after it
+abbrev pub IsAscending : List ℕ → Type 0
+IsAscending [] = Unit {0}
+IsAscending (number ∷ numbers) = Each (λ other. number ≤ other) numbers × IsAscending numbers
+
+-- each number is below those after it
+abbrev pub IsRising : List ℕ → Type 0
+IsRising [] = Unit {0}
+IsRising (number ∷ numbers) = Each (λ other. number < other) numbers × IsRising numbers
+
+-- the numbers of these clients
+abbrev pub numbers_of : List Caller → List ℕ
+numbers_of callers = map (λ caller. caller.number) callers
+
+-- the task, where there is one
+abbrev pub listed : Option Task → List Task
+listed (Some task) = task ∷ []
+listed None = []
