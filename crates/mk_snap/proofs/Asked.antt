@@ -11,7 +11,7 @@ use Rattle.mk_merge.specs.Bases.{empty_base}
 use Rattle.mk_merge.specs.Merging.{merged}
 use Rattle.mk_merge.specs.Promises.{PromiseState, ArePromises, EntryFits, promised_txns}
 use Rattle.mk_merge.proofs.Examples.{fits-empty}
-use Rattle.mk_snap.specs.Rows.{reader, writer, conflicting, early, late, second, finished, covered, adopted_by_two}
+use Rattle.mk_snap.specs.Rows.{reader, writer, conflicting, early, late, second, finished, covered, adopted_by_two, hinted, unhinted}
 
 -- transactions that are each one of two
 two-coherent : (a b : Transaction) (all : List Transaction) → (a.id ≡ b.id → ⊥) → (a.stamp ≡ b.stamp → ⊥) → Each (λ t. (t ≡ a) ⊎ (t ≡ b)) all → AreCoherent all
@@ -95,3 +95,28 @@ adopted-asked = record {
   where
     same : (p : PromiseState) → Among p (adopted_by_two (merged 1 1 covered)) → p.base ≡ merged 1 1 covered
     same p a = Each-among (λ (s : PromiseState). s.base ≡ merged 1 1 covered) p (adopted_by_two (merged 1 1 covered)) (refl, (refl, tt)) a
+
+-- one transaction, reported repeatedly
+one-coherent : (all : List Transaction) → Each (λ (t : Transaction). t ≡ early) all → AreCoherent all
+one-coherent all h = record {
+  one_of_a_number = λ x y p q e. Each-among (λ (t : Transaction). t ≡ early) x all h p ∙ sym (Each-among (λ (t : Transaction). t ≡ early) y all h q);
+  one_of_a_stamp = λ x y p q e. ap (λ (t : Transaction). t.id) (Each-among (λ (t : Transaction). t ≡ early) x all h p ∙ sym (Each-among (λ (t : Transaction). t ≡ early) y all h q));
+}
+
+pub hinted-asked : ArePromises hinted
+hinted-asked = record {
+  distinct_replicas = ((λ a. elim a [ inl e ↦ absurd (omega (arith, e)) | inr b ↦ elim b [ inl e ↦ absurd (omega (arith, e)) | inr n ↦ n ] ]), ((λ a. elim a [ inl e ↦ absurd (omega (arith, e)) | inr n ↦ n ]), ((λ a. a), tt)));
+  distinct_ids = (((λ a. a), tt), (((λ a. a), tt), (tt, tt)));
+  one_base = one-base hinted (refl, (refl, (refl, tt)));
+  coherent = one-coherent (flat_map promised_txns hinted) (refl, (refl, tt));
+  entries_fit = ((fits _ refl, tt), ((fits _ refl, tt), (tt, tt)));
+}
+
+pub unhinted-asked : ArePromises unhinted
+unhinted-asked = record {
+  distinct_replicas = ((λ a. elim a [ inl e ↦ absurd (omega (arith, e)) | inr n ↦ n ]), ((λ a. a), tt));
+  distinct_ids = (tt, (((λ a. a), tt), tt));
+  one_base = one-base unhinted (refl, (refl, tt));
+  coherent = one-coherent (flat_map promised_txns unhinted) (refl, tt);
+  entries_fit = (tt, ((fits _ refl, tt), tt));
+}

@@ -102,3 +102,11 @@ promised_on r base = record { replica = r; adopted = 1; base = base; entries = [
 -- two replicas have adopted this base
 abbrev pub adopted_by_two : BaseState → List PromiseState
 adopted_by_two base = promised_on 0 base ∷ promised_on 1 base ∷ []
+
+-- two of three promises have an Ok vote
+abbrev pub hinted : List PromiseState
+hinted = promised 1 (voted early None None ∷ []) ∷ promised 0 (voted early None None ∷ []) ∷ promised 2 [] ∷ []
+
+-- one of two has
+abbrev pub unhinted : List PromiseState
+unhinted = promised 2 [] ∷ promised 0 (voted early None None ∷ []) ∷ []

@@ -1,7 +1,7 @@
 ghost use Rattle.std.specs.Prelude.{◌≡◌, [], ◌∷◌, None, Some, IfOk};
 ghost use Rattle.mk_txn.specs.declared.Value.TheVariants.{Number};
 ghost use Rattle.mk_merge.specs.Keepings.{PromiseStands, Stand};
-ghost use Rattle.mk_snap.specs.Rows.{reader as is_reader, writer as is_writer, early as is_early, late as is_late, second as is_second, voted, promised, conflicting as are_conflicting, finished as are_finished, covered as are_covered, two_entries, promised_on, adopted_by_two};
+ghost use Rattle.mk_snap.specs.Rows.{reader as is_reader, writer as is_writer, early as is_early, late as is_late, second as is_second, voted, promised, conflicting as are_conflicting, finished as are_finished, covered as are_covered, hinted as are_hinted, unhinted as are_unhinted, two_entries, promised_on, adopted_by_two};
 ghost use Rattle.mk_merge.specs.Bases.{BaseState};
 
 use crate::Snap;
@@ -200,6 +200,53 @@ fn later_ones_fit<K: Keeping>(rt: &impl Abort, alloc: Global) -> Result<(), Fail
     let value = Value::Number(5);
     assert_eq!(rt; cell.act(Act::Get), Answer::Version { version, value });
     Ok(())
+}
+
+// Ok votes of two of three promises, of replicas 1 and 0.
+fn hinted<K: Keeping>(alloc: Global) -> Result<Vec<Promise<K>>, Fail>
+    ensures { IfOk result (λ made. Stand K K.stands made.items are_hinted) }
+{
+    let first = one(alloc, entry(early(alloc)?, None, None))?;
+    let second = one(alloc, entry(early(alloc)?, None, None))?;
+    let mut promises = Vec::new(alloc);
+    promises.push(promise(alloc, 1, first))?;
+    promises.push(promise(alloc, 0, second))?;
+    promises.push(promise(alloc, 2, Vec::new(alloc)))?;
+    Ok(promises)
+}
+
+// One Ok vote, of replica 0.
+fn unhinted<K: Keeping>(alloc: Global) -> Result<Vec<Promise<K>>, Fail>
+    ensures { IfOk result (λ made. Stand K K.stands made.items are_unhinted) }
+{
+    let voted = one(alloc, entry(early(alloc)?, None, None))?;
+    let mut promises = Vec::new(alloc);
+    promises.push(promise(alloc, 2, Vec::new(alloc)))?;
+    promises.push(promise(alloc, 0, voted))?;
+    Ok(promises)
+}
+
+// A hint of Ok votes makes a commit, and fewer an abort by the epoch.
+fn hints_decide<K: Keeping>(rt: &impl Abort, alloc: Global) -> Result<(), Fail> {
+    let size = size_of(2)?;
+    let promises: Vec<Promise<K>> = hinted(alloc)?;
+    let made = K::merge(alloc, size, 1, promises.as_slice())?;
+    assert_eq!(rt; (made.fates().commits(), made.fates().aborts()), (1, 0));
+    let few: Vec<Promise<K>> = unhinted(alloc)?;
+    let other = K::merge(alloc, size_of(1)?, 2, few.as_slice())?;
+    let aborted = Known::Outcome(Outcome::Abort(Cause::Epoch(2)));
+    assert_eq!(rt; other.fates().fate(EARLY), aborted);
+    Ok(())
+}
+
+#[test]
+fn hints_decide_in_a_list(rt: HostRuntime) -> Result<(), Fail> {
+    hints_decide::<Base>(&rt, rt.alloc())
+}
+
+#[test]
+fn hints_decide_in_a_snapshot(rt: HostRuntime) -> Result<(), Fail> {
+    hints_decide::<Snap>(&rt, rt.alloc())
 }
 
 #[test]
