@@ -103,6 +103,7 @@ not_past phase word adopted epoch e = by (lacks phase) e
       where
         lower : (a b : ℕ) → nat_lt a b ≡ false → b ≤ a
         lower a b k = grind (arith, nat_tests)
+
         either : (b : Bool) → nat_lt epoch word ≡ b → (b || nat_le epoch adopted) ≡ false → word ≤ epoch
         either true e k = absurd (cc k)
         either false e k = lower epoch word e
@@ -279,7 +280,7 @@ module _ {B : Type 0} (stands : B → BaseState → Type 0) (old : ReplicasView 
       let k = base state h fit in
       let same = counts (merged state.faults epoch (promises_for epoch state)) k in
       accepted stands old state h nothing_handed (Merge epoch) answer new (same ∙ sym (line state h)) (ap is_accepted same)
-          (subst (λ (v : ReplicasView B). StandsFor stands v (global_after state nothing_handed (Merge epoch))) (sym is) (merged_stands stands old state h epoch made row none k))
+      (subst (λ (v : ReplicasView B). StandsFor stands v (global_after state nothing_handed (Merge epoch))) (sym is) (merged_stands stands old state h epoch made row none k))
 
   -- a call that finds no memory, where the line would have been done
   pub unfinished : (handed : HandedIn) (line : GlobalLine) (answer : GlobalAnswer) → is_accepted answer ≡ true → ((state : EpochState) → StandsFor stands old state → ◌≡◌ {A = Option GlobalAnswer} (Some answer) (Some (global_answer state line))) → Does stands old old handed line None
@@ -297,7 +298,7 @@ module _ {B : Type 0} (stands : B → BaseState → Type 0) (old : ReplicasView 
       Does stands old new handed (PromiseLine epoch r) (Some Done)
   promises epoch r handed promise new row in_hand line k state h =
       accepted stands old state h handed (PromiseLine epoch r) Done new (some_same Done _ (line state h)) refl
-          (subst (λ (v : ReplicasView B). StandsFor stands v (global_after state handed (PromiseLine epoch r))) (sym k.2) (promised_stands stands old state h epoch r handed promise k.0 k.1 row in_hand))
+      (subst (λ (v : ReplicasView B). StandsFor stands v (global_after state handed (PromiseLine epoch r))) (sym k.2) (promised_stands stands old state h epoch r handed promise k.0 k.1 row in_hand))
 
   -- a call that keeps a promise, fails at the word, or finds no memory
   pub promised_or_not : (epoch r : ℕ) (handed : HandedIn) (promise : Promise B) (new : ReplicasView B) (result : Result (Unit {0}) EpochError) → epoch < length old.changes → IsHandedIn stands old.replicas r handed promise →
@@ -317,8 +318,8 @@ module _ {B : Type 0} (stands : B → BaseState → Type 0) (old : ReplicasView 
   adopts epoch r taken new row some copy line few k state h =
       let made = there (change_for epoch old.changes).made some in
       accepted stands old state h nothing_handed (Adopt epoch r) Done new (some_same Done _ (line state h)) refl
-          (subst (λ (v : ReplicasView B). StandsFor stands v (global_after state nothing_handed (Adopt epoch r))) (sym k.2)
-              (adopted_stands stands old state h epoch r made.0 taken k.0 k.1 row (omega (arith, few.0, few.1)) made.1 (copy made.0 made.1)))
+      (subst (λ (v : ReplicasView B). StandsFor stands v (global_after state nothing_handed (Adopt epoch r))) (sym k.2)
+      (adopted_stands stands old state h epoch r made.0 taken k.0 k.1 row (omega (arith, few.0, few.1)) made.1 (copy made.0 made.1)))
     where
       there : (o : Option B) → IsSome o → (made : B) × (o ≡ Some made)
       there None some = absurd (cc some)
@@ -329,31 +330,31 @@ module _ {B : Type 0} (stands : B → BaseState → Type 0) (old : ReplicasView 
       Does stands old new nothing_handed (Wipe r) (Some Done)
   wipes r empty new e k state h =
       accepted stands old state h nothing_handed (Wipe r) Done new refl refl
-          (subst (λ (v : ReplicasView B). StandsFor stands v (global_after state nothing_handed (Wipe r))) (sym k.2) (wiped_stands stands old state h r k.0 empty k.1 e))
+      (subst (λ (v : ReplicasView B). StandsFor stands v (global_after state nothing_handed (Wipe r))) (sym k.2) (wiped_stands stands old state h r k.0 empty k.1 e))
 
   pub asks : (epoch : ℕ) (new : ReplicasView B) → new ≡ record old { changes = with_asked epoch old.changes } → Does stands old new nothing_handed (Ask epoch) (Some Done)
   asks epoch new is state h =
       accepted stands old state h nothing_handed (Ask epoch) Done new refl refl
-          (subst (λ (v : ReplicasView B). StandsFor stands v (global_after state nothing_handed (Ask epoch))) (sym is) (asked_stands stands old state h epoch))
+      (subst (λ (v : ReplicasView B). StandsFor stands v (global_after state nothing_handed (Ask epoch))) (sym is) (asked_stands stands old state h epoch))
 
   pub enters : (epoch count : ℕ) (new : ReplicasView B) → ((state : EpochState) → StandsFor stands old state → count ≡ adopters epoch state) → majority_of old.faults ≤ count →
       new ≡ record old { replicas = change (waits_for epoch) now_serving old.replicas } → Does stands old new nothing_handed (Enter epoch) (Some (Entered count))
   enters epoch count new counts enough is state h =
       accepted stands old state h nothing_handed (Enter epoch) (Entered count) new
-          (sym (ap (λ b. if b then TooFew (adopters epoch state) else Entered (adopters epoch state)) (lt_fails (adopters epoch state) (majority_of state.faults) (omega (arith, enough, counts state h, h.faults))) ∙ ap Entered (sym (counts state h)))) refl
-          (subst (λ (v : ReplicasView B). StandsFor stands v (global_after state nothing_handed (Enter epoch))) (sym is) (entered_stands stands old state h epoch))
+      (sym (ap (λ b. if b then TooFew (adopters epoch state) else Entered (adopters epoch state)) (lt_fails (adopters epoch state) (majority_of state.faults) (omega (arith, enough, counts state h, h.faults))) ∙ ap Entered (sym (counts state h)))) refl
+      (subst (λ (v : ReplicasView B). StandsFor stands v (global_after state nothing_handed (Enter epoch))) (sym is) (entered_stands stands old state h epoch))
 
   pub enters_short : (epoch count : ℕ) → ((state : EpochState) → StandsFor stands old state → count ≡ adopters epoch state) → count < majority_of old.faults → Does stands old old nothing_handed (Enter epoch) (Some (TooFew count))
   enters_short epoch count counts short state h =
       refused stands old state h nothing_handed (Enter epoch) (TooFew count)
-          (sym (ap (λ b. if b then TooFew (adopters epoch state) else Entered (adopters epoch state)) (lt_holds (adopters epoch state) (majority_of state.faults) (omega (arith, short, counts state h, h.faults))) ∙ ap TooFew (sym (counts state h)))) refl
+      (sym (ap (λ b. if b then TooFew (adopters epoch state) else Entered (adopters epoch state)) (lt_holds (adopters epoch state) (majority_of state.faults) (omega (arith, short, counts state h, h.faults))) ∙ ap TooFew (sym (counts state h)))) refl
 
 module _ {B : Type 0} (stands : B → BaseState → Type 0) (old : ReplicasView B) (f epoch : ℕ) (size : f ≡ old.faults) (ps : List (Promise B)) (given : ps ≡ (change_for epoch old.changes).promises) where
   pub can_tell : (state : EpochState) → StandsFor stands old state → can_merge state.faults epoch (promises_for epoch state) ≡ (nat_le (majority_of f) (length ps) && list_any (λ p. p.replica == leader_of f epoch) ps)
   can_tell state h =
       can_by stands old state h epoch
       ∙ sym (ap (λ n. nat_le (majority_of n) (length ps) && list_any (λ p. p.replica == leader_of n epoch) ps) size
-          ∙ ap (λ qs. nat_le (majority_of old.faults) (length qs) && list_any (λ (p : Promise B). p.replica == leader_of old.faults epoch) qs) given)
+      ∙ ap (λ qs. nat_le (majority_of old.faults) (length qs) && list_any (λ (p : Promise B). p.replica == leader_of old.faults epoch) qs) given)
 
   pub too_few : (change_for epoch old.changes).made ≡ None → nat_le (majority_of f) (length ps) ≡ false → (state : EpochState) → StandsFor stands old state → TooFew (length ps) ≡ global_answer state (Merge epoch)
   too_few none few state h =

@@ -51,14 +51,17 @@ module _ {B : Type 0} (old now : ReplicasView B) (is : old ≡ now) (k : IsKept 
       pub adopted_kept : (taken : B) → word_at now.replicas r ≤ epoch → after ≡ adopted_by r row → IsKept (both_set r epoch (new_adopter epoch taken) after old)
       adopted_kept taken w e =
           subst (λ (c : ChangeView B). IsKept (both_set r epoch (new_adopter epoch taken) c old))
-              (sym (e ∙ ap (adopted_by r) (row_there epoch row row_in row_at)))
-              (kept_adopted old k epoch r kept (new_adopter epoch taken) found (within w) low)
+          (sym (e ∙ ap (adopted_by r) (row_there epoch row row_in row_at)))
+          (kept_adopted old k epoch r kept (new_adopter epoch taken) found (within w) low)
 
       pub adopted_now : (taken : B) → after ≡ adopted_by r row → (x : Replica B) × (slice_get now.replicas r ≡ Some x)
           × (both_set r epoch (new_adopter epoch taken) after old ≡ both_set r epoch (new_adopter epoch taken) (adopted_by r (change_for epoch now.changes)) now)
-      adopted_now taken e = (kept, seen r kept found,
-          ap (λ (c : ChangeView B). both_set r epoch (new_adopter epoch taken) c old) (e ∙ ap (adopted_by r) (row_there epoch row row_in row_at))
-          ∙ ap (λ (v : ReplicasView B). both_set r epoch (new_adopter epoch taken) (adopted_by r (change_for epoch v.changes)) v) is)
+      adopted_now taken e = (
+        kept,
+        seen r kept found,
+        ap (λ (c : ChangeView B). both_set r epoch (new_adopter epoch taken) c old) (e ∙ ap (adopted_by r) (row_there epoch row row_in row_at))
+            ∙ ap (λ (v : ReplicasView B). both_set r epoch (new_adopter epoch taken) (adopted_by r (change_for epoch v.changes)) v) is,
+      )
 
       pub adopted_few : (r < 7) × (length (change_for epoch now.changes).adopters ≡ 7)
       adopted_few = (few_replicas old k r (subst (λ (v : ReplicasView B). r < members v.faults) (sym is) in_range), subst (λ (v : ReplicasView B). length (change_for epoch v.changes).adopters ≡ 7) is (k.adopters epoch))
@@ -67,24 +70,30 @@ module _ {B : Type 0} (old now : ReplicasView B) (is : old ≡ now) (k : IsKept 
           IsKept (both_set r epoch new after old)
       promised_kept promise new w n e =
           subst (λ (x : Replica B). IsKept (both_set r epoch x after old)) (sym n)
-            (subst (λ (c : ChangeView B). IsKept (both_set r epoch (record kept { word = epoch; phase = Paused }) c old))
-              (sym (e ∙ ap (promised_to promise) (row_there epoch row row_in row_at)))
-              (kept_promised old k epoch r kept promise found (below w) low))
+          (subst (λ (c : ChangeView B). IsKept (both_set r epoch (record kept { word = epoch; phase = Paused }) c old))
+          (sym (e ∙ ap (promised_to promise) (row_there epoch row row_in row_at)))
+          (kept_promised old k epoch r kept promise found (below w) low))
 
       pub promised_now : (promise : Promise B) (new : Replica B) → new ≡ record kept { word = epoch; phase = Paused } → after ≡ promised_to promise row → (x : Replica B) × (slice_get now.replicas r ≡ Some x)
           × (both_set r epoch new after old ≡ both_set r epoch (record x { word = epoch; phase = Paused }) (promised_to promise (change_for epoch now.changes)) now)
-      promised_now promise new n e = (kept, seen r kept found,
-          ap (λ (x : Replica B). both_set r epoch x after old) n
-          ∙ ap (λ (c : ChangeView B). both_set r epoch (record kept { word = epoch; phase = Paused }) c old) (e ∙ ap (promised_to promise) (row_there epoch row row_in row_at))
-          ∙ ap (λ (v : ReplicasView B). both_set r epoch (record kept { word = epoch; phase = Paused }) (promised_to promise (change_for epoch v.changes)) v) is)
+      promised_now promise new n e = (
+        kept,
+        seen r kept found,
+        ap (λ (x : Replica B). both_set r epoch x after old) n
+            ∙ ap (λ (c : ChangeView B). both_set r epoch (record kept { word = epoch; phase = Paused }) c old) (e ∙ ap (promised_to promise) (row_there epoch row row_in row_at))
+            ∙ ap (λ (v : ReplicasView B). both_set r epoch (record kept { word = epoch; phase = Paused }) (promised_to promise (change_for epoch v.changes)) v) is,
+      )
 
     pub lost_kept : (empty : B) (new : Replica B) → new ≡ record kept { phase = Lacking; adopted = 0; base = empty } → IsKept (replica_set r new old)
     lost_kept empty new n = kept_replica old k r kept new found (omega (arith, ap (λ (x : Replica B). x.word) n))
 
     pub lost_now : (empty : B) (new : Replica B) → new ≡ record kept { phase = Lacking; adopted = 0; base = empty } → (x : Replica B) × (slice_get now.replicas r ≡ Some x)
         × (replica_set r new old ≡ replica_set r (record x { phase = Lacking; adopted = 0; base = empty }) now)
-    lost_now empty new n = (kept, seen r kept found,
-        ap (λ (x : Replica B). replica_set r x old) n ∙ ap (λ (v : ReplicasView B). replica_set r (record kept { phase = Lacking; adopted = 0; base = empty }) v) is)
+    lost_now empty new n = (
+      kept,
+      seen r kept found,
+      ap (λ (x : Replica B). replica_set r x old) n ∙ ap (λ (v : ReplicasView B). replica_set r (record kept { phase = Lacking; adopted = 0; base = empty }) v) is,
+    )
 
 abbrev pub as_changed : {B : Type 0} → ReplicasView B → List (ChangeView B) → ReplicasView B
 as_changed view changes = record { faults = view.faults; replicas = view.replicas; changes = changes }

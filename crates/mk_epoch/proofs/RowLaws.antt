@@ -129,6 +129,7 @@ module _ {X : Type 0} where
     where
       same : z ≡ x
       same = cc at
+
       by : (b : Bool) → p z ≡ b → (c : Bool) → p y ≡ c → length (cond b (z ∷ filter p xs) (filter p xs)) ≤ length (cond c (y ∷ filter p xs) (filter p xs))
       by true e true k = omega arith
       by true e false k = absurd (cc (sym (h (subst (λ (w : X). p w ≡ true) same e)) ∙ k))
@@ -148,6 +149,7 @@ module _ {X : Type 0} where
     where
       same : z ≡ x
       same = cc at
+
       by : (b : Bool) → b ≡ false → (c : Bool) → c ≡ true → length (cond c (y ∷ filter p xs) (filter p xs)) ≡ suc (length (cond b (z ∷ filter p xs) (filter p xs)))
       by true e c k = absurd (cc e)
       by false e true k = refl
@@ -170,6 +172,7 @@ module _ {X : Type 0} where
           inner false false e = k
           inner true false e = absurd (cc e)
           inner false true e = absurd (cc e)
+
       by : (b c : Bool) → p x ≡ c → length (filter p (change q f xs)) ≡ length (filter p xs) → length (filter p ((if b then f x else x) ∷ change q f xs)) ≡ length (filter p (x ∷ xs))
       by true c e k = last (f x) (h x) k
       by false c e k = last x refl k

@@ -467,11 +467,7 @@ fn first<B: Keeping>(alloc: Global) -> Replica<B>
 }
 
 // So many changes have their place.
-fn grow<B: Drop>(
-    alloc: Global,
-    changes: &mut Vec<Change<B>>,
-    count: usize,
-) -> Result<(), NoMemory>
+fn grow<B: Drop>(alloc: Global, changes: &mut Vec<Change<B>>, count: usize) -> Result<(), NoMemory>
     ensures ok { OnOk result (changes.new.items ≡ changes.old.items ++ replicate (count - length changes.old.items) no_change) }
     ensures err { OnErr result (changes.new.items ≡ changes.old.items) }
 {

@@ -280,8 +280,18 @@ fn after_the_wipe<B: Keeping>(rt: &impl Abort, replicas: &Replicas<B>)
         [replicas.phase(0), replicas.phase(1), replicas.phase(2)],
         [Phase::Serving, Phase::Paused, Phase::Lacking]
     );
-    assert_eq!(rt; [replicas.word(0), replicas.word(1), replicas.word(2)], [1, 1, 1]);
-    assert_eq!(rt; [replicas.adopted(0), replicas.adopted(1), replicas.adopted(2)], [1, 0, 0]);
+    assert_eq!(rt;
+        [replicas.word(0), replicas.word(1), replicas.word(2)],
+        [1, 1, 1]
+    );
+    assert_eq!(rt;
+        [
+            replicas.adopted(0),
+            replicas.adopted(1),
+            replicas.adopted(2)
+        ],
+        [1, 0, 0]
+    );
     assert_eq!(rt; replicas.base(0).fates().commits(), 0);
     assert!(rt; replicas.made(1).is_some());
     assert!(rt; replicas.made(2).is_none());
