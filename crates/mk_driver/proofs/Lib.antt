@@ -50,3 +50,4 @@ mod PartLaws
 mod RoundLaws
 mod StartLaws
 mod StandingLaws
+mod FewLaws

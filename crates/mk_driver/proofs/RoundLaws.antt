@@ -1,5 +1,5 @@
 -- How the lines of a round come to the clients.
-use Rattle.std.proofs.Common.{◌≡◌, ◌<◌, ◌≤◌, ℕ, zero, suc, ◌+◌, ◌-◌, ◌∙◌, Bool, true, false, List, [], ◌∷◌, ◌++◌, Some, None, refl, sym, subst, ap, length, take, map, find, filter, slice_index, slice_index_or, arith, if◌then◌else◌}
+use Rattle.std.proofs.Common.{◌≡◌, ◌<◌, ◌≤◌, ℕ, zero, suc, ◌-◌, ◌∙◌, Bool, true, false, List, [], ◌∷◌, ◌++◌, Some, None, refl, sym, subst, ap, length, take, map, find, filter, slice_index, slice_index_or, arith, if◌then◌else◌}
 use Rattle.std.proofs.Common.{append_assoc}
 use Rattle.std.specs.Prelude.{is_some}
 use Rattle.std.specs.List.{list_any}
@@ -9,7 +9,6 @@ use Rattle.mk_lists.specs.Changed.{change}
 use Rattle.mk_driver.specs.declared.Task.{Task}
 use Rattle.mk_driver.specs.declared.Task.TheVariants.{Take}
 use Rattle.mk_driver.specs.declared.Caller.{Caller}
-use Rattle.mk_driver.specs.declared.Request.{Request}
 use Rattle.mk_driver.specs.declared.Submission.{Submission}
 use Rattle.mk_driver.specs.Agenda.{is_caller}
 use Rattle.mk_driver.specs.Driven.{asked_more, is_submission_of, with_line}

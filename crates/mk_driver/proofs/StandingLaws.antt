@@ -1,12 +1,11 @@
 -- What a driver with its column stands for, from step to step and from round to round.
-use Rattle.std.proofs.Common.{◌≡◌, ◌<◌, ℕ, zero, suc, ◌+◌, ◌∙◌, List, [], ◌∷◌, ◌++◌, Some, refl, sym, subst, ap, length, map, drop, arith}
+use Rattle.std.proofs.Common.{◌≡◌, ℕ, zero, suc, ◌+◌, ◌∙◌, List, [], ◌∷◌, ◌++◌, refl, sym, subst, ap, length, map, drop, arith}
 use Rattle.std.specs.Prelude.{slice_index_or}
 use Rattle.mk_merge.specs.declared.ReplicaView.{ReplicaView}
 use Rattle.mk_script.specs.Scripts.{ScriptParts}
-use Rattle.mk_script.specs.declared.lines.Round.{Round}
 use Rattle.mk_faults.specs.Fates.{RuleLines, rules_of}
 use Rattle.mk_column.specs.declared.Step.{Step}
-use Rattle.mk_column.specs.ColumnState.{Setting, ColumnState}
+use Rattle.mk_column.specs.ColumnState.{Setting}
 use Rattle.mk_column.specs.ColumnByCode.{ColumnView}
 use Rattle.mk_column.specs.Steps.{column_after}
 use Rattle.mk_column.specs.Logs.{reading_ended}

@@ -1,9 +1,8 @@
 -- The clients of a column have rising numbers.
-use Rattle.std.proofs.Common.{◌≡◌, ◌<◌, ◌≤◌, ℕ, ◌+◌, Bool, true, false, List, [], ◌∷◌, arith, ◌==◌, if◌then◌else◌}
+use Rattle.std.proofs.Common.{◌<◌, ◌≤◌, ℕ, ◌+◌, Bool, true, false, List, [], ◌∷◌, arith, ◌==◌, if◌then◌else◌}
 use Rattle.std.specs.Prelude.{None}
 use Rattle.mk_lists.specs.Among.{Each, Each-weaker}
 use Rattle.mk_script.specs.declared.lines.ClientLine.{ClientLine}
-use Rattle.mk_driver.specs.declared.Caller.{Caller}
 use Rattle.mk_driver.specs.Keeping.{IsRising, numbers_of}
 use Rattle.mk_driver.specs.Driven.{callers_from}
 

@@ -14,6 +14,8 @@ mod stages;
 mod starting;
 mod stepping;
 mod tasks;
+#[cfg(test)]
+mod tests;
 mod views;
 
 use mk_column::{KeyCall, Step};

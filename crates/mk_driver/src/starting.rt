@@ -1,6 +1,8 @@
 //! The driver of a column before the first round.
 ghost use Rattle.std.specs.Prelude.{◌≡◌, ◌≤◌, [], None, length, map, IfOk};
 ghost use Rattle.mk_driver.specs.Driven.{callers_from, new_driver, lines_of, submitted_by};
+ghost use Rattle.mk_lists.specs.Among.{Each};
+ghost use Rattle.mk_driver.specs.Keeping.{HasFew, HaveFew};
 ghost use Rattle.mk_driver.specs.Standings.{driver_of};
 
 use crate::{
@@ -16,11 +18,9 @@ use std::collections::VecDeque;
 impl Items {
     // A copy of the items.
     fn of(alloc: Global, items: &[Item]) -> Result<Items, NoMemory>
+        requires { length items.now ≤ 16 }
         ensures { IfOk result (λ copy. copy ≡ items.now) }
     {
-        if items.len() > 16 {
-            return Err(NoMemory);
-        }
         Ok(Items {
             list: Vec::from_slice(alloc, items)?,
         })
@@ -30,6 +30,7 @@ impl Items {
 impl Submission {
     // What the line asks for.
     fn of(alloc: Global, retry: u32, line: &TxnLine) -> Result<Submission, NoMemory>
+        requires { HasFew line.now }
         ensures { IfOk result (λ submission. submission ≡ submitted_by retry line.now) }
     {
         Ok(Submission {
@@ -45,7 +46,9 @@ impl Submission {
 
 impl Submissions {
     // What the lines ask for.
+    #[tactic(auto, using(crate::proofs::FewLaws::each_at))]
     fn of(alloc: Global, retry: u32, lines: &[TxnLine]) -> Result<Submissions, NoMemory>
+        requires { Each HasFew lines.now }
         ensures { IfOk result (λ submissions. submissions ≡ map (submitted_by retry) lines.now) }
     {
         let mut list = VecDeque::new(alloc);
@@ -70,6 +73,7 @@ impl TakeoverList {
 impl RoundLines {
     // The lines of the round.
     fn of(alloc: Global, retry: u32, round: &Round) -> Result<RoundLines, NoMemory>
+        requires { HaveFew round.now }
         ensures { IfOk result (λ lines. lines ≡ lines_of retry round.now) }
     {
         Ok(RoundLines {
@@ -80,7 +84,9 @@ impl RoundLines {
 }
 
 // The lines of all rounds.
+#[tactic(auto, using(crate::proofs::FewLaws::each_at))]
 fn rounds_of(alloc: Global, retry: u32, rounds: &[Round]) -> Result<VecDeque<RoundLines>, NoMemory>
+    requires { Each HaveFew rounds.now }
     ensures { IfOk result (λ lines. lines.items ≡ map (lines_of retry) rounds.now) }
 {
     let mut lines = VecDeque::new(alloc);
@@ -167,6 +173,7 @@ impl DriverState {
 
 impl Driver {
     /// The driver of this column before the first round.
+    #[tactic(auto, using(crate::proofs::FewLaws::whole_few))]
     pub fn new(alloc: Global, script: &Script, column: u32) -> Result<Driver, NoMemory>
         ensures { IfOk result (λ driver. driver ≡ driver_of script.now column) }
     {
