@@ -1,5 +1,5 @@
 -- Clients found and changed by place and by number, where their numbers rise.
-use Rattle.std.proofs.Common.{◌≡◌, ◌<◌, ◌≤◌, ℕ, zero, suc, ◌+◌, Bool, true, false, ◌≢◌, List, [], ◌∷◌, Option, Some, None, refl, sym, subst, ap, ◌∙◌, arith, length, find, slice_get, slice_set, slice_index, slice_index_or, nat_lt, IsSomeAnd}
+use Rattle.std.proofs.Common.{◌≡◌, ◌<◌, ◌≤◌, ℕ, zero, suc, Bool, true, false, ◌≢◌, List, [], ◌∷◌, Some, None, refl, sym, subst, ap, ◌∙◌, arith, length, find, slice_get, slice_set, slice_index, slice_index_or, nat_lt, IsSomeAnd}
 use Rattle.std.proofs.lemmas.Bool.Decides.{nat_tests}
 use Rattle.mk_lists.specs.Among.{Each}
 use Rattle.mk_lists.specs.Changed.{change}

@@ -47,3 +47,7 @@ mod Staging
 mod Reading
 mod TrialLaws
 mod PartLaws
+mod RoundLaws
+mod StartLaws
+mod StandingLaws
+mod FewLaws

@@ -1,5 +1,5 @@
 -- The tasks of a part, put from the last on.
-use Rattle.std.proofs.Common.{◌≡◌, ◌<◌, ◌≤◌, ℕ, zero, suc, ◌+◌, ◌-◌, ◌∙◌, List, [], ◌∷◌, ◌++◌, Some, refl, sym, subst, ap, length, take, arith}
+use Rattle.std.proofs.Common.{◌≡◌, ◌<◌, ◌≤◌, ℕ, zero, suc, ◌+◌, ◌-◌, ◌∙◌, List, [], ◌∷◌, ◌++◌, Some, sym, subst, ap, length, take, arith}
 use Rattle.std.proofs.Common.{append_assoc}
 use Rattle.std.specs.Prelude.{flat_map, slice_get, slice_index}
 use Rattle.mk_script.specs.declared.lines.TakeoverLine.{TakeoverLine}

@@ -1,5 +1,5 @@
 -- The replicas in cyclic order, one after the other.
-use Rattle.std.proofs.Common.{◌≡◌, ℕ, suc, ◌+◌, ◌-◌, ◌<◌, Bool, false, refl, sym, subst, ap, ◌∙◌, map, find, arith}
+use Rattle.std.proofs.Common.{◌≡◌, ℕ, suc, ◌+◌, ◌-◌, ◌<◌, Bool, false, refl, subst, map, find, arith}
 use Rattle.mk_column.specs.ColumnState.{numbers_from}
 
 -- one that does not serve is passed over

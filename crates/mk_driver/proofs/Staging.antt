@@ -1,6 +1,6 @@
 -- The stage of an attempt under way, by what the driver asks of its column.
 use Rattle.std.proofs.Common.{◌≡◌, ◌≢◌, Option, Some, None, true, refl, ap, ◌∙◌}
-use Rattle.std.specs.Prelude.{is_none, is_some, option_map}
+use Rattle.std.specs.Prelude.{is_some, option_map}
 use Rattle.mk_txn.specs.declared.TxnId.{TxnId}
 use Rattle.mk_txn.specs.declared.Outcome.{Outcome}
 use Rattle.mk_coord.specs.declared.Ruling.{Ruling}

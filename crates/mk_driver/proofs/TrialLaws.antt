@@ -1,5 +1,5 @@
 -- One place more among the trials.
-use Rattle.std.proofs.Common.{◌≡◌, ◌<◌, ℕ, suc, ◌+◌, ◌-◌, ◌∙◌, List, [], ◌∷◌, ◌++◌, Option, None, refl, sym, ap, length, arith}
+use Rattle.std.proofs.Common.{◌≡◌, ◌<◌, ℕ, suc, ◌-◌, List, [], ◌∷◌, ◌++◌, Option, None, refl, ap, length, arith}
 use Rattle.std.specs.Prelude.{replicate}
 use Rattle.mk_driver.specs.declared.Request.{Request}
 

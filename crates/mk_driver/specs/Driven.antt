@@ -28,6 +28,8 @@ use Rattle.mk_driver.specs.declared.Part.TheVariants.{Resume as ResumePart, Turn
 use Rattle.mk_driver.specs.declared.DriverState.{DriverState}
 use Rattle.mk_driver.specs.declared.Caller.{Caller}
 use Rattle.mk_driver.specs.declared.Request.{Request}
+use Rattle.mk_driver.specs.declared.Submission.{Submission}
+use Rattle.mk_driver.specs.declared.RoundLines.{RoundLines}
 use Rattle.mk_driver.specs.Agenda.{is_caller}
 use Rattle.mk_driver.specs.Turns.{choice}
 
@@ -44,33 +46,50 @@ abbrev pub new_driver : ScriptParts → ℕ → DriverState
 new_driver script column =
     record { agenda = []; parts = []; late = []; held = []; takeovers = []; callers = callers_from column 1 script.clients }
 
--- the line is of this client
-abbrev pub is_line_of : ℕ → TxnLine → Bool
-is_line_of client line = line.client == client
+-- the submission is of this client
+abbrev pub is_submission_of : ℕ → Submission → Bool
+is_submission_of client submission = submission.client == client
 
--- what a line asks for
-abbrev pub request_of : ScriptParts → TxnLine → Request
-request_of script line = record { clock = line.clock; items = line.items; tries = script.retry }
+-- what a line asks for, with so many tries after the first
+abbrev pub submitted_by : ℕ → TxnLine → Submission
+submitted_by retry line =
+    record { client = line.client; request = record { clock = line.clock; items = line.items; tries = retry } }
 
--- a client with its txn lines of this round
-abbrev pub with_round_lines : ScriptParts → Round → Caller → Caller
-with_round_lines script round caller =
-    record caller { lines = map (request_of script) (filter (is_line_of caller.number) round.txns) }
+-- the lines of a round
+abbrev pub lines_of : ℕ → Round → RoundLines
+lines_of retry round = record { submissions = map (submitted_by retry) round.txns; takeovers = round.takeovers }
+
+-- those of a round of this script
+abbrev pub lines_of_round : ScriptParts → Round → RoundLines
+lines_of_round script round = lines_of script.retry round
+
+-- one more is asked for
+abbrev pub with_line : Request → Caller → Caller
+with_line request caller = record caller { lines = caller.lines ++ request ∷ [] }
+
+-- the client's are asked for, behind what was asked for before
+abbrev pub asked_more : List Submission → Caller → Caller
+asked_more submissions caller =
+    record caller { lines = caller.lines ++ map (λ submission. submission.request) (filter (is_submission_of caller.number) submissions) }
 
 -- the line is for one of these clients
 abbrev pub is_for : List Caller → TakeoverLine → Bool
 is_for callers line = list_any (is_caller line.id.client) callers
 
--- a round begins: the messages held for it are taken first
-abbrev pub begun_round : ScriptParts → Round → DriverState → DriverState
-begun_round script round driver =
+-- a round with these lines begins: the messages held for it are taken first
+abbrev pub begun_with : RoundLines → DriverState → DriverState
+begun_with lines driver =
     record driver {
       agenda = map (λ number. Take number) driver.held;
       parts = ResumePart ∷ (TurnsPart ∷ (TakeoversPart ∷ (LatePart ∷ (SettlePart ∷ []))));
       held = [];
-      takeovers = filter (is_for driver.callers) round.takeovers;
-      callers = map (with_round_lines script round) driver.callers;
+      takeovers = filter (is_for driver.callers) lines.takeovers;
+      callers = map (asked_more lines.submissions) driver.callers;
     }
+
+-- a round begins
+abbrev pub begun_round : ScriptParts → Round → DriverState → DriverState
+begun_round script round driver = begun_with (lines_of_round script round) driver
 
 -- a round without lines
 abbrev pub empty_round : Round

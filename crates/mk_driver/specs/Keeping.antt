@@ -1,6 +1,8 @@
 -- What the driver's lists keep.
-use Rattle.std.specs.Prelude.{ℕ, ◌<◌, ◌≤◌, List, [], ◌∷◌, map, Option, Some, None}
+use Rattle.std.specs.Prelude.{ℕ, ◌<◌, ◌≤◌, List, [], ◌∷◌, map, length, Option, Some, None}
 use Rattle.mk_lists.specs.Among.{Each}
+use Rattle.mk_script.specs.declared.lines.TxnLine.{TxnLine}
+use Rattle.mk_script.specs.declared.lines.Round.{Round}
 use Rattle.mk_driver.specs.declared.Task.{Task}
 use Rattle.mk_driver.specs.declared.Caller.{Caller}
 
@@ -22,3 +24,11 @@ numbers_of callers = map (λ caller. caller.number) callers
 abbrev pub listed : Option Task → List Task
 listed (Some task) = task ∷ []
 listed None = []
+
+-- a transaction has at most 16 items
+abbrev pub HasFew : TxnLine → Type 0
+HasFew line = length line.items ≤ 16
+
+-- so has each of a round
+abbrev pub HaveFew : Round → Type 0
+HaveFew round = Each HasFew round.txns

@@ -9,3 +9,5 @@ pub mod Turns
 pub mod Passing
 pub mod Keeping
 pub mod Driven
+pub mod Drivers
+pub mod Standings

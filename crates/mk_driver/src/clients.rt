@@ -85,7 +85,7 @@ impl Callers {
     }
 
     /// Where the client of this number stands. To change it there is to change it in the list.
-    fn place_of(&self, number: u32) -> Option<usize>
+    pub(crate) fn place_of(&self, number: u32) -> Option<usize>
         ensures within { IfSome result (λ place. place < length self.now) }
         ensures found { IfSome result (λ place. (caller : OneCaller) → find (is_caller number) self.now ≡ Some (slice_index_or self.now place caller)) }
         ensures changed { IfSome result (λ place. (f : OneCaller → OneCaller) (caller : OneCaller) → change (is_caller number) f self.now ≡ slice_set self.now place (f (slice_index_or self.now place caller))) }

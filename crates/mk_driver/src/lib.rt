@@ -6,15 +6,21 @@ mod asked;
 mod beginning;
 mod clients;
 mod delivery;
+mod driving;
 mod passes;
+mod rounds;
 mod settling;
 mod stages;
+mod starting;
 mod stepping;
 mod tasks;
+#[cfg(test)]
+mod tests;
 mod views;
 
 use mk_column::{KeyCall, Step};
 use mk_proc::Item;
+use mk_quorum::Size;
 use mk_script::{Point, TakeoverLine};
 use mk_txn::TxnId;
 use std::collections::VecDeque;
@@ -240,4 +246,51 @@ pub struct DriverState {
     pub held: Numbers,
     pub takeovers: TakeoverList,
     pub callers: Callers,
+}
+
+/// What a client's txn line asks for.
+#[derive(Drop)]
+pub struct Submission {
+    pub client: u32,
+    pub request: Request,
+}
+
+#[derive(Drop)]
+pub struct Submissions {
+    list: VecDeque<Submission>,
+}
+
+impl Model for Submissions {
+    ghost use Rattle.std.specs.Prelude.{List};
+    ghost use Rattle.mk_driver.specs.declared.Submission.{Submission};
+
+    ghost Value = { List Submission };
+
+    ghost view = { λ s. s.list.items };
+}
+
+/// The lines of a round that has not begun.
+#[derive(Drop)]
+pub struct RoundLines {
+    pub submissions: Submissions,
+    pub takeovers: TakeoverList,
+}
+
+/// The driver of one column of a script.
+#[derive(Drop)]
+pub struct Driver {
+    size: Size,
+    column: u32,
+    // how many rounds were begun
+    round: u32,
+    rounds: VecDeque<RoundLines>,
+    state: DriverState,
+}
+
+impl Model for Driver {
+    ghost use Rattle.mk_driver.specs.Drivers.{DriverView};
+
+    ghost Value = { DriverView };
+
+    ghost view = { λ d. record { size = d.size; column = d.column; round = d.round; rounds = d.rounds.items; driver = d.state } };
 }

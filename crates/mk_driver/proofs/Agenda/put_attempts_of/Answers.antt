@@ -1,4 +1,4 @@
-use Rattle.std.proofs.Common.{◌≡◌, ◌∙◌, ◌-◌, ◌++◌, ℕ, List, sym, ap}
+use Rattle.std.proofs.Common.{◌∙◌, ◌-◌, ◌++◌, ℕ, List, sym, ap}
 use Rattle.std.specs.Prelude.{flat_map}
 use Rattle.mk_column.specs.ColumnState.{numbers_from}
 use Rattle.mk_driver.specs.declared.Task.{Task}

@@ -1,4 +1,4 @@
-use Rattle.std.proofs.Common.{◌≡◌, ◌∙◌, ◌-◌, ◌∷◌, [], ◌++◌, List, sym, ap, take, arith}
+use Rattle.std.proofs.Common.{◌∙◌, ◌-◌, ◌∷◌, [], ◌++◌, List, sym, ap, take, arith}
 use Rattle.std.specs.Prelude.{flat_map}
 use Rattle.mk_script.specs.declared.lines.TakeoverLine.{TakeoverLine}
 use Rattle.mk_driver.specs.declared.Task.{Task}

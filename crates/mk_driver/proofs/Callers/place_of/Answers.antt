@@ -1,4 +1,4 @@
-use Rattle.std.proofs.Common.{◌≡◌, ◌<◌, ◌+◌, ◌-◌, ◌/◌, ◌∙◌, sym, subst, arith, length}
+use Rattle.std.proofs.Common.{◌<◌, ◌+◌, ◌-◌, ◌/◌, ◌∙◌, sym, subst, arith, length}
 use Rattle.mk_driver.specs.Keeping.{IsRising, numbers_of}
 use Rattle.mk_driver.proofs.CallerLaws.{find-at, change-at, rising-le, none-here, length-numbers}
 use Rattle.mk_driver.proofs.Callers.place_of.Goals as goal

@@ -1,5 +1,5 @@
 -- The clients below have lower numbers, and those above higher ones.
-use Rattle.std.proofs.Common.{◌≡◌, ◌<◌, ◌≤◌, ◌-◌, ℕ, length, slice_index}
+use Rattle.std.proofs.Common.{◌<◌, ◌≤◌, ◌-◌, ℕ, length, slice_index}
 use Rattle.mk_driver.specs.Keeping.{numbers_of}
 use Rattle.mk_driver.proofs.Callers.place_of.Given as goal
 

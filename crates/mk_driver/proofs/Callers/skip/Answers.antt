@@ -1,4 +1,3 @@
-use Rattle.std.proofs.Common.{◌<◌, ◌≡◌, length, subst}
 use Rattle.mk_driver.specs.Stages.{without_request}
 use Rattle.mk_driver.proofs.CallerLaws.{set-here, rising-as, there-within}
 use Rattle.mk_driver.proofs.Callers.skip.Goals as goal

@@ -1,4 +1,4 @@
-use Rattle.std.proofs.Common.{◌≡◌, ◌∙◌, sym, subst}
+use Rattle.std.proofs.Common.{◌≡◌, sym, subst}
 use Rattle.mk_driver.specs.Agenda.{in_order}
 use Rattle.mk_driver.specs.Keeping.{IsAscending}
 use Rattle.mk_driver.proofs.InOrder.{in_order_at, in_order-ascending}

@@ -1,4 +1,4 @@
-use Rattle.std.proofs.Common.{◌≡◌, ◌<◌, ◌≤◌, ◌-◌, ◌∙◌, sym, subst, arith, length, nat_lt, false}
+use Rattle.std.proofs.Common.{◌≡◌, ◌<◌, ◌≤◌, ◌-◌, subst, arith, length, nat_lt, false}
 use Rattle.std.specs.Prelude.{slice_index}
 use Rattle.mk_driver.proofs.InOrder.{before-place, index-or}
 use Rattle.mk_driver.proofs.Numbers.place_of.Goals as goal

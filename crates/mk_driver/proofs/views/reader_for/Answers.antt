@@ -1,4 +1,4 @@
-use Rattle.std.proofs.Common.{◌≡◌, ◌∙◌, ◌+◌, ◌%◌, sym, arith}
+use Rattle.std.proofs.Common.{◌∙◌, ◌+◌, ◌%◌, arith}
 use Rattle.std.specs.Prelude.{slice_get}
 use Rattle.mk_quorum.specs.Sizes.{members}
 use Rattle.mk_quorum.specs.Slots.{passes}

@@ -1,5 +1,5 @@
 -- The replicas to come, in cyclic order, have the first that serves.
-use Rattle.std.proofs.Common.{◌≡◌, ◌+◌, ◌-◌, ◌%◌, ◌≤◌, map, find}
+use Rattle.std.proofs.Common.{◌≡◌, ◌+◌, ◌-◌, ◌%◌, map, find}
 use Rattle.std.specs.Prelude.{slice_get}
 use Rattle.mk_quorum.specs.Sizes.{members}
 use Rattle.mk_quorum.specs.Slots.{passes}

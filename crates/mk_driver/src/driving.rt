@@ -1,0 +1,77 @@
+//! The driver of one column.
+ghost use Rattle.std.specs.Prelude.{◌≡◌, ◌+◌, ◌++◌, ◌∷◌, [], ℕ, List, Some, slice_get, IsSome, IfOk, OnOk, OnErr};
+ghost use Rattle.mk_faults.specs.Fates.{rules_of};
+ghost use Rattle.mk_merge.specs.declared.ReplicaView.{ReplicaView};
+ghost use Rattle.mk_script.specs.Scripts.{ScriptParts};
+ghost use Rattle.mk_column.specs.declared.Step.{Step as OneStep};
+ghost use Rattle.mk_column.specs.ColumnByCode.{ColumnView};
+ghost use Rattle.mk_history.specs.Histories.{log_of};
+ghost use Rattle.mk_driver.specs.declared.RoundLines.{RoundLines as Lines};
+ghost use Rattle.mk_driver.specs.Turns.{choice};
+ghost use Rattle.mk_driver.specs.Driven.{PastRound, begun_with, turn};
+ghost use Rattle.mk_driver.specs.Drivers.{DriverView, after_lines};
+ghost use Rattle.mk_driver.specs.Standings.{Stands, IsFirst, IsStepped, IsNextRound};
+
+use crate::{Driver, Next};
+use mk_column::Column;
+use mk_faults::Rules;
+use mk_proc::Procs;
+use mk_txn::NoMemory;
+
+impl Driver {
+    /// The next round begins. After an error the driver is of no further use.
+    pub fn begin_round(&mut self, round: u32) -> Result<(), NoMemory>
+        requires next { round ≡ self.old.round + 1 }
+        requires left { IsSome (slice_get self.old.rounds 0) }
+        ensures { OnOk result ((lines : Lines) → slice_get self.old.rounds 0 ≡ Some lines →
+            self.new ≡ record self.old { round = round; rounds = after_lines self.old.rounds; driver = begun_with lines self.old.driver }) }
+    {
+        let Some(lines) = self.rounds.pop_front() else {
+            unreachable!()
+        };
+        self.round = round;
+        self.state.begin_round(lines)
+    }
+
+    /// What comes next at the column: what the turns name, for all rounds, views and log that the two stand for. After an error the same comes next.
+    #[tactic(auto, using(crate::proofs::StandingLaws::names_turn, crate::proofs::StandingLaws::stands_still))]
+    pub fn next(&mut self, column: &Column, rules: &Rules, procs: &Procs) -> Result<Next, NoMemory>
+        requires { column.now.setting.faults ≡ self.old.size }
+        ensures named { IfOk result (λ next.
+            choice rules.now column.now.setting column.now.state self.old.driver ≡ record { next = next; driver = self.new.driver }) }
+        ensures kept { OnErr result (
+            choice rules.now column.now.setting column.now.state self.old.driver
+            ≡ choice rules.now column.now.setting column.now.state self.new.driver) }
+        ensures rest { self.new ≡ record self.old { driver = self.new.driver } }
+        ensures turn { IfOk result (λ next. (script : ScriptParts) (rounds : List PastRound) (views : List ReplicaView) (log : List OneStep) →
+            rules.now ≡ rules_of script → Stands script self.old column.now rounds views log → next ≡ turn script self.old.column rounds views log) }
+        ensures stands { OnErr result ((script : ScriptParts) (rounds : List PastRound) (views : List ReplicaView) (log : List OneStep) →
+            rules.now ≡ rules_of script → Stands script self.old column.now rounds views log → Stands script self.new column.now rounds views log) }
+    {
+        self.state.next(column, rules, procs, self.size)
+    }
+}
+
+/// A new driver and a new column stand, once the first round began on both, for no finished round, the views handed in
+/// and the empty log.
+pub fn stands_at_first()
+    ensures { (script : ScriptParts) (views : List ReplicaView) (driver : DriverView) (column : ColumnView) (number : ℕ) →
+        IsFirst script number views driver column → Stands script driver column [] views [] }
+{}
+
+/// After a step they stand for the log with that step.
+pub fn stands_after_step()
+    ensures { (script : ScriptParts) (rounds : List PastRound) (views : List ReplicaView) (log : List OneStep) (step : OneStep)
+        (driver new_driver : DriverView) (column new_column : ColumnView) →
+        Stands script driver column rounds views log → IsStepped script step driver new_driver column new_column →
+        Stands script new_driver new_column rounds views (log ++ step ∷ []) }
+{}
+
+/// After a later beginning they stand for the finished round too, the views handed in and the empty log.
+pub fn stands_after_round()
+    ensures { (script : ScriptParts) (rounds : List PastRound) (past : PastRound) (views : List ReplicaView)
+        (driver new_driver : DriverView) (column new_column : ColumnView) →
+        Stands script driver column rounds past.views (log_of past.round driver.column) →
+        IsNextRound script past views driver new_driver column new_column →
+        Stands script new_driver new_column (rounds ++ past ∷ []) views [] }
+{}
