@@ -16,6 +16,7 @@ mod conditions;
 mod hearing;
 mod hearing_takeover;
 mod learned;
+mod outlet;
 mod replica;
 mod sending;
 mod stamping;
@@ -25,6 +26,7 @@ mod taking;
 mod work;
 
 pub use column::Column;
+pub use outlet::{NoOutlet, Outlet};
 use mk_cell::{Act, Answer};
 pub use mk_merge::{Phase, ReplicaView};
 use mk_txn::{NoMemory, Outcome, ReadItem, Txn, TxnId, WriteItem};
