@@ -61,6 +61,7 @@ none_reads id txn k (b ∷ all) e h = by_test (is_begun id b) refl (none_reads i
       where
         both : (c s : ℕ) → c ≡ id.client → s ≡ id.seq → (c == id.client && s == id.seq) ≡ true
         both c s p q = grind (arith, nat_tests, p, q)
+
     by_test : (t : Bool) → is_begun id b ≡ t → has_reading id.client (change_begun id (begun_stamped txn) all) ≡ false
         → ((cond t (begun_stamped txn b) b).state.reading && (cond t (begun_stamped txn b) b).state.id.client == id.client || has_reading id.client (change_begun id (begun_stamped txn) all)) ≡ false
     by_test true here ih = ih
@@ -73,9 +74,11 @@ others_read id txn m (b ∷ all) e = by_test (is_begun id b) refl (others_read i
   where
     apart : is_begun id b ≡ true → (b.state.id.client == m) ≡ false
     apart here = ap (λ (i : TxnId). i.client == m) (same_id-tells b.state.id id here) ∙ e
+
     and_false : (r s : Bool) → s ≡ false → false ≡ (r && s)
     and_false true s k = sym k
     and_false false s k = refl
+
     by_test : (t : Bool) → is_begun id b ≡ t → has_reading m (change_begun id (begun_stamped txn) all) ≡ has_reading m all
         → ((cond t (begun_stamped txn b) b).state.reading && (cond t (begun_stamped txn b) b).state.id.client == m || has_reading m (change_begun id (begun_stamped txn) all)) ≡ (b.state.reading && b.state.id.client == m || has_reading m all)
     by_test true here ih = ih ∙ ap (λ r. r || has_reading m all) (and_false b.state.reading (b.state.id.client == m) (apart here))
@@ -149,7 +152,7 @@ IsKept-stamped f kept ends id begun client after txn clients attempts h s change
       attempts = Each-turn (is_begun id) (begun_stamped txn) (AttemptFits f kept.link learned) (AttemptFits f kept.link learned) (λ b here k. fits-stamped f kept.link learned id txn b s.named here k) (λ b other k. k) kept.attempts h.attempts;
       takeovers = h.takeovers;
       clients = subst (Each (ClientFits all)) (sym put)
-      (Each-turn (λ (c : Client). c.number == n) (λ before. client_stamped time client) (ClientFits kept.attempts) (ClientFits all) (λ c same k. own) (λ c other k. other-fits id txn kept.attempts c other k) kept.clients h.clients);
+          (Each-turn (λ (c : Client). c.number == n) (λ before. client_stamped time client) (ClientFits kept.attempts) (ClientFits all) (λ c same k. own) (λ c other k. other-fits id txn kept.attempts c other k) kept.clients h.clients);
       sent = h.sent;
       settled = λ q. h.settled q ∙ ap (λ b. (q.seq == 0) || b) (sym (ap (passes (λ (b : BegunView). is_settled b.state)) (begun-after id txn q kept.attempts) ∙ passes-changed (is_begun id) (begun_stamped txn) (λ b. is_settled b.state) (λ b. refl) (begun_of q kept.attempts)));
       decisions = λ q none. h.decisions q (none-after id txn q kept.attempts none);
@@ -164,6 +167,7 @@ IsKept-stamped f kept ends id begun client after txn clients attempts h s change
         from : (o : Option Client) → IsSome o → IsSome (option_map (changed_member (λ (c : Client). c.number == n) (client_stamped time)) o)
         from None j = absurd (false≢true j)
         from (Some c) j = refl
+
     other-fits : (id : TxnId) (txn : Transaction) (bs : List BegunView) (c : Client) → (c.number == id.client) ≡ false → ClientFits bs c → ClientFits (change_begun id (begun_stamped txn) bs) c
     other-fits id txn bs c other k =
         let apart : (id.client == c.number) ≡ false = back c.number id.client other in

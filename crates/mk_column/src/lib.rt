@@ -13,11 +13,13 @@ mod begun;
 mod clients;
 mod column;
 mod conditions;
+mod dispatch;
 mod learned;
 mod replica;
 mod sending;
 mod stamping;
 mod stepping;
+mod take_stub;
 mod takeovers;
 mod work;
 

@@ -26,7 +26,7 @@ use mk_txn::{NoMemory, Outcome, TxnId};
 
 impl Column {
     // The own coordinator stops for good.
-    fn stop(&mut self, id: TxnId)
+    pub(crate) fn stop(&mut self, id: TxnId)
         requires { blocked_by self.old.setting self.old.state (Stop id) ≡ None }
         ensures { self.new ≡ record self.old { state = column_after self.old.setting self.old.state (Stop id) } }
     {
