@@ -21,3 +21,4 @@ pub mod KeptSteps
 pub mod BeginLaws
 pub mod StampedLaws
 pub mod AnswerLaws
+pub mod TakeLaws

@@ -1,5 +1,5 @@
 -- What the code keeps of a column, and what contracts see of it.
-use Rattle.std.specs.Prelude.{◌≡◌, ℕ, ◌+◌, ◌<◌, ◌≤◌, ◌^◌, Bool, true, false, ◌==◌, ◌||◌, ◌&&◌, List, [], length, map, find, slice_index_or, option_map, Option, None, Some, IsSome, IsSomeAnd}
+use Rattle.std.specs.Prelude.{◌≡◌, ℕ, ◌+◌, ◌<◌, ◌≤◌, ◌^◌, Bool, true, false, ◌==◌, ◌||◌, ◌&&◌, List, [], ◌∷◌, length, map, find, slice_index_or, option_map, Option, None, Some, IsSome, IsSomeAnd}
 use Rattle.std.specs.List.{list_any}
 use Rattle.mk_lists.specs.Among.{Each}
 use Rattle.mk_txn.specs.declared.TxnId.{TxnId}
@@ -50,6 +50,11 @@ way_of Finishing = ByFinishing
 -- what was learned
 abbrev pub learning_of_kept : Learned → Learning
 learning_of_kept learned = record { id = learned.id; outcome = learned.outcome; way = way_of learned.way }
+
+-- what is kept where a replica finished, and else nothing
+abbrev pub finish_kept : TxnId → Option Outcome → List Learned
+finish_kept id (Some outcome) = record { id = id; outcome = outcome; way = Finishing } ∷ []
+finish_kept id None = []
 
 -- the parts of a column that change in its steps
 pub record Kept : Type 0 where

@@ -73,6 +73,11 @@ by_message round column msg (MovedBody moved) =
     if is_heard round column msg then learning_of msg.id (ByMoved moved.to) (moved_outcome moved) else []
 by_message round column msg _ = []
 
+-- the outcome with which the message's replica finishes by it, where it does
+abbrev pub finished_by : Setting → ColumnState → Msg → Body → Option Outcome
+finished_by round column msg (Decide outcome) = if is_finished_by round column msg then Some outcome else None
+finished_by round column msg _ = None
+
 -- what a message teaches that is taken
 abbrev pub by_taken : Setting → ColumnState → Option Msg → List Learning
 by_taken round column (Some msg) = by_message round column msg msg.body

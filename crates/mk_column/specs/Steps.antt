@@ -29,7 +29,7 @@ use Rattle.mk_column.specs.ColumnState.{Setting, ColumnState, AttemptState, Take
 use Rattle.mk_column.specs.ColumnState.Work.{Idle, Fetching, Validating, Finishing}
 use Rattle.mk_column.specs.Replicas.{reacted, reaction_by_view, finishing, held_at}
 use Rattle.mk_column.specs.Answers.{answer_taken}
-use Rattle.mk_column.specs.Learnings.{learned_in_step, txn_of}
+use Rattle.mk_column.specs.Learnings.{learned_in_step, by_message, txn_of}
 use Rattle.mk_column.specs.Conditions.{blocked}
 
 -- something is done with a value where there is one
@@ -170,6 +170,12 @@ picking round view attempt column =
 abbrev pub replica_takes : Setting → Msg → Transaction → ColumnState → ColumnState
 replica_takes round msg txn column =
     reacted msg.replica (reaction_by_view txn (held_at column msg.replica) msg (slice_get round.views msg.replica)) column
+
+-- a message is taken by its replica, which may finish
+abbrev pub delivered : Setting → Msg → ColumnState → ColumnState
+delivered round msg column =
+    let after = on_some (replica_takes round msg) (txn_of column msg.id) column in
+    record after { learned = column.learned ++ by_message round column msg msg.body }
 
 -- a message is taken by a replica, or by a coordinator or takeover
 abbrev pub taken : Setting → Msg → ColumnState → ColumnState

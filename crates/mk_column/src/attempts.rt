@@ -1,5 +1,5 @@
 //! The attempts of a column, found by their numbers.
-ghost use Rattle.std.specs.Prelude.{◌≡◌, ◌<◌, List, ◌∷◌, ◌++◌, [], true, false, None, Some, length, map, slice_index_or, slice_set, option_copied, IsSome, IsSomeAnd, OnOk, OnErr};
+ghost use Rattle.std.specs.Prelude.{◌≡◌, ◌<◌, List, ◌∷◌, ◌++◌, [], true, false, None, Some, length, map, slice_index_or, slice_set, option_copied, option_and_then, IsSome, IsSomeAnd, OnOk, OnErr};
 ghost use Rattle.std.specs.Option.{option_or};
 ghost use Rattle.mk_quorum.specs.Sizes.{members};
 ghost use Rattle.mk_coord.specs.declared.Ruling.TheVariants.{Propose};
@@ -53,6 +53,16 @@ impl Attempts {
     {
         let place = self.places.get(&id)?;
         self.items.get(*place)
+    }
+
+    /// The transaction of this number, once it is stamped.
+    pub(crate) fn txn(&self, id: TxnId) -> Option<&Txn>
+        ensures { option_copied result ≡ option_and_then (λ (begun : OneBegun). begun.state.txn) (begun_of id self.now) }
+    {
+        match self.find(id) {
+            Some(begun) => begun.shown().txn.as_ref(),
+            None => None,
+        }
     }
 
     /// Appends an attempt, of whose number there is none.

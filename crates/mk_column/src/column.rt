@@ -198,7 +198,7 @@ impl Column {
     }
 
     // The attempt of this number, as it is kept.
-    fn begun(&self, id: TxnId) -> Option<&Begun>
+    pub(crate) fn begun(&self, id: TxnId) -> Option<&Begun>
         ensures { option_map (λ (begun : BegunView). begun.state) (option_copied result) ≡ attempt_of self.now.state id }
     {
         self.attempts.find(id)

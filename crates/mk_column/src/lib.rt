@@ -21,6 +21,7 @@ mod stamping;
 mod stepping;
 mod take_stub;
 mod takeovers;
+mod taking;
 mod work;
 
 pub use column::Column;

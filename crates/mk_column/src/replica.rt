@@ -1,5 +1,5 @@
 //! What a replica keeps of a column, and what it does with a message.
-ghost use Rattle.std.specs.Prelude.{◌≡◌, [], true, None, Some, IsSome, IsSomeAnd, OnOk, OnErr, IfOk};
+ghost use Rattle.std.specs.Prelude.{◌≡◌, [], true, None, Some, option_copied, IsSome, IsSomeAnd, OnOk, OnErr, IfOk};
 ghost use Rattle.mk_record.specs.declared.Entry.{Entry as AnEntry};
 ghost use Rattle.mk_record.specs.Entries.{entry_of, may_vote, change_entry, with_vote};
 ghost use Rattle.mk_msg.specs.declared.Msg.{Msg as AMsg};
@@ -142,6 +142,13 @@ impl Replica {
         ensures { result.now ≡ self.now.entries }
     {
         self.record.entries()
+    }
+
+    /// The entry of this attempt.
+    pub(crate) fn find(&self, id: TxnId) -> Option<&Entry>
+        ensures { option_copied result ≡ entry_of id self.now.entries }
+    {
+        self.record.find(id)
     }
 
     pub(crate) fn marks(&self) -> &Marks
