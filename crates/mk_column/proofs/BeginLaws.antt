@@ -11,6 +11,7 @@ use Rattle.std.proofs.lemmas.Bool.{false≢true}
 use Rattle.std.proofs.lemmas.Bool.Decides.{nat_tests}
 use Rattle.std.proofs.lemmas.Option.{none-some, same_Some}
 use Rattle.mk_lists.specs.Among.{Each, Each-append, Each-weaker}
+use Rattle.mk_column.specs.TakeoversByCode.{BackupView}
 use Rattle.mk_lists.specs.Changed.{change, Each-change}
 use Rattle.mk_txn.specs.declared.TxnId.{TxnId}
 use Rattle.mk_txn.specs.Transactions.{same_id, Transaction}
@@ -267,6 +268,7 @@ IsKept-begun f kept ends after client epoch new clients h found idle upto next s
           (Each-weaker (λ (b : BegunView). IsSome (kept_client b.state.id.client kept.clients)) (λ (b : BegunView). IsSome (kept_client b.state.id.client clients)) (λ b k. home b.state.id.client k) kept.attempts h.homes)
           (subst (λ m. IsSome (kept_client m clients)) (sym of_client) (home n (subst IsSome (sym found) refl)), tt);
       work = work-begun (members f) kept.attempts new kept.replicas kept.work h.work;
+      takers = Each-weaker (λ (backup : BackupView). IsSome (begun_of backup.of.id kept.attempts)) (λ (backup : BackupView). IsSome (begun_of backup.of.id (kept.attempts ++ new ∷ []))) (λ backup k. work-begun 0 kept.attempts new [] (KeptFetching backup.of.id 0 0) k) kept.takeovers h.takers;
     }
   where
     or_assoc : (a b t : Bool) → ((a || b) || t) ≡ (a || (b || t))

@@ -92,5 +92,6 @@ start-kept f numbers ends clients attempts takeovers replicas link learned e1 e2
       decisions = λ id none. refl;
       validates = λ id none. refl;
       homes = tt;
+      takers = tt;
       work = tt;
     })

@@ -7,6 +7,7 @@ use Rattle.std.proofs.lemmas.Bool.{false≢true}
 use Rattle.std.proofs.lemmas.Bool.Decides.{nat_tests}
 use Rattle.std.proofs.lemmas.Option.{none-some, same_Some}
 use Rattle.mk_lists.specs.Among.{Each, Each-weaker}
+use Rattle.mk_column.specs.TakeoversByCode.{BackupView}
 use Rattle.mk_lists.specs.Changed.{change}
 use Rattle.mk_txn.specs.declared.TxnId.{TxnId}
 use Rattle.mk_txn.specs.declared.Stamp.{Stamp as StampType}
@@ -29,7 +30,7 @@ use Rattle.mk_column.specs.Steps.{on_some, stamping, stamped, stamped_txn, with_
 use Rattle.mk_column.specs.AttemptsByCode.{BegunView, on_state, is_begun, begun_of, change_begun, states_of}
 use Rattle.mk_column.specs.ColumnByCode.{Kept, IsKept, AttemptFits, ClientFits, WorkFits, has_reading, learning_of_kept, column_of}
 use Rattle.mk_column.proofs.ColumnLaws.{client-found, attempt-found, find-passes, Each-find}
-use Rattle.mk_column.proofs.ListLaws.{Each-turn, find-change, map-change, changed_member, passes-changed, none-from_map}
+use Rattle.mk_column.proofs.ListLaws.{Each-turn, find-change, map-change, changed_member, passes-changed, none-from_map, map-there}
 use Rattle.mk_column.proofs.KeptLaws.{idle-fits}
 use Rattle.mk_column.proofs.StepLaws.{begun-there, there-from_passes, states-changed}
 use Rattle.mk_column.proofs.BeginLaws.{Puts, puts-turned}
@@ -159,6 +160,7 @@ IsKept-stamped f kept ends id begun client after txn clients attempts h s change
       validates = λ q none. h.validates q (none-after id txn q kept.attempts none);
       homes = Each-turn (is_begun id) (begun_stamped txn) _ _ (λ b e there. home b.state.id.client there) (λ b e there. home b.state.id.client there) kept.attempts h.homes;
       work = idle-fits (members f) all kept.replicas kept.work s.idle;
+      takers = Each-weaker (λ (backup : BackupView). IsSome (begun_of backup.of.id kept.attempts)) (λ (backup : BackupView). IsSome (begun_of backup.of.id all)) (λ backup k. subst IsSome (sym (begun-after id txn backup.of.id kept.attempts)) (map-there (changed_member (is_begun id) (begun_stamped txn)) (begun_of backup.of.id kept.attempts) k)) kept.takeovers h.takers;
     })
   where
     home-stamped : (n m time : ℕ) (cs : List Client) → IsSome (kept_client m cs) → IsSome (kept_client m (change_kept n (client_stamped time) cs))
