@@ -22,3 +22,4 @@ pub mod BeginLaws
 pub mod StampedLaws
 pub mod AnswerLaws
 pub mod TakeLaws
+pub mod HearLaws

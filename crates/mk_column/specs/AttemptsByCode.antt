@@ -40,10 +40,6 @@ as_begun f state = record { state = state; faults = f; validated = false; decide
 abbrev pub on_state : (AttemptState → AttemptState) → BegunView → BegunView
 on_state f begun = record begun { state = f begun.state }
 
--- what is taught, where something is
-abbrev pub taught_where : Option Outcome → AttemptState → AttemptState
-taught_where outcome attempt = record attempt { coord = coord_taught outcome attempt.coord }
-
 -- the attempt's number
 abbrev pub begun_id : BegunView → TxnId
 begun_id begun = begun.state.id

@@ -27,6 +27,10 @@ client_begun epoch reading client =
 abbrev pub client_stamped : ℕ → Client → Client
 client_stamped time client = record client { last_time = time; reading = false }
 
+-- a client that has heard of this epoch
+abbrev pub client_heard : ℕ → Client → Client
+client_heard epoch client = record client { heard = max client.heard epoch }
+
 -- the client's number
 abbrev pub number_of : Client → ℕ
 number_of client = client.number

@@ -12,7 +12,8 @@ use Rattle.mk_cell.specs.declared.Answer.{Answer}
 use Rattle.mk_cell.specs.declared.Answer.TheVariants.{Version, Okay, Refused, Done}
 use Rattle.mk_record.specs.Entries.{change_entry, with_vote}
 use Rattle.mk_msg.specs.declared.Msg.{Msg}
-use Rattle.mk_msg.specs.declared.Body.TheVariants.{Validate as ValidateBody, Voted, Accept, Decide, Ask}
+use Rattle.mk_msg.specs.declared.Body.{Body}
+use Rattle.mk_msg.specs.declared.Body.TheVariants.{Validate as ValidateBody, Voted, Accept, Accepted as AcceptedBody, Decide, Ask}
 use Rattle.mk_msg.specs.Links.{message, goes_to_replica}
 use Rattle.mk_valid.specs.Checks.{KeyAct}
 use Rattle.mk_valid.specs.Validations.{ValidationState, next_act, after_answer, vote_of}
@@ -25,11 +26,11 @@ use Rattle.mk_takeover.specs.Picks.{pick, new_takeover, takeover_proposed}
 use Rattle.mk_merge.specs.declared.ReplicaView.{ReplicaView}
 use Rattle.mk_column.specs.declared.Step.{Step}
 use Rattle.mk_column.specs.declared.Step.TheVariants.{Begin, Unread, Read, Stamp, Validate, Take, Key, Rule, Again, Takeover, Pick as PickStep, Stop}
-use Rattle.mk_column.specs.ColumnState.{Setting, ColumnState, AttemptState, TakeoverOf, ClientState, Learning, Work, client_of, attempt_of, takeover_of, entries_at, change_client, change_attempt, change_takeover, mark_sent, to_all, send}
+use Rattle.mk_column.specs.ColumnState.{Setting, ColumnState, AttemptState, TakeoverOf, ClientState, Learning, Way, Work, client_of, attempt_of, takeover_of, entries_at, change_client, change_attempt, change_takeover, mark_sent, to_all, send}
 use Rattle.mk_column.specs.ColumnState.Work.{Idle, Fetching, Validating, Finishing}
 use Rattle.mk_column.specs.Replicas.{reacted, reaction_by_view, finishing, held_at}
 use Rattle.mk_column.specs.Answers.{answer_taken}
-use Rattle.mk_column.specs.Learnings.{learned_in_step, by_message, txn_of}
+use Rattle.mk_column.specs.Learnings.{learned_in_step, learning_of, by_message, txn_of}
 use Rattle.mk_column.specs.Conditions.{blocked}
 
 -- something is done with a value where there is one
@@ -176,6 +177,32 @@ abbrev pub delivered : Setting → Msg → ColumnState → ColumnState
 delivered round msg column =
     let after = on_some (replica_takes round msg) (txn_of column msg.id) column in
     record after { learned = column.learned ++ by_message round column msg msg.body }
+
+-- an answer is taken by a coordinator or a takeover, which may be taught
+abbrev pub heard_taken : Setting → Msg → ColumnState → ColumnState
+heard_taken round msg column =
+    let after = answer_taken round msg column in
+    record after { learned = column.learned ++ by_message round column msg msg.body }
+
+-- what is taught, where something is
+abbrev pub taught_where : Option Outcome → AttemptState → AttemptState
+taught_where outcome attempt = record attempt { coord = coord_taught outcome attempt.coord }
+
+-- the own coordinator is taught in this way, where there is an outcome
+abbrev pub taught_in : TxnId → Way → Option Outcome → ColumnState → ColumnState
+taught_in id way outcome column =
+    let after = change_attempt id (taught_where outcome) column in
+    record after { learned = column.learned ++ learning_of id way outcome }
+
+-- the client has heard of this epoch
+abbrev pub heard_at : ℕ → ClientState → ClientState
+heard_at epoch client = record client { heard = max client.heard epoch }
+
+-- a vote or an accept
+abbrev pub counts : Body → Bool
+counts (Voted vote) = true
+counts AcceptedBody = true
+counts _ = false
 
 -- a message is taken by a replica, or by a coordinator or takeover
 abbrev pub taken : Setting → Msg → ColumnState → ColumnState

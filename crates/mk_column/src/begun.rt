@@ -9,9 +9,9 @@ ghost use Rattle.mk_coord.specs.Rulings.{ruling as ruling_of};
 ghost use Rattle.mk_column.specs.ColumnState.{shown as shown_of};
 ghost use Rattle.mk_column.specs.Conditions.{may_read as may_read_key};
 ghost use Rattle.mk_column.specs.Answers.{moved_outcome, attempt_answered};
-ghost use Rattle.mk_column.specs.Steps.{new_attempt, unread_attempt, proposing, taught};
+ghost use Rattle.mk_column.specs.Steps.{new_attempt, unread_attempt, proposing, taught, taught_where};
 ghost use Rattle.mk_column.specs.Logs.{not_reading};
-ghost use Rattle.mk_column.specs.AttemptsByCode.{as_begun, on_state, taught_where};
+ghost use Rattle.mk_column.specs.AttemptsByCode.{as_begun, on_state};
 
 use crate::{Attempt, Reads};
 use mk_coord::{Coord, Ruling};

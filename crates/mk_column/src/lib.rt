@@ -14,6 +14,7 @@ mod clients;
 mod column;
 mod conditions;
 mod dispatch;
+mod hearing;
 mod hearing_takeover;
 mod learned;
 mod replica;
