@@ -89,13 +89,14 @@ IsKept-heard f kept ends n epoch clients is h =
       attempts = h.attempts;
       takeovers = h.takeovers;
       clients = subst (Each (ClientFits kept.attempts)) (sym is)
-      (Each-turn (λ (c : Client). c.number == n) (client_heard epoch) (ClientFits kept.attempts) (ClientFits kept.attempts) (λ c e k. record { reading = k.reading; last_time = k.last_time; next_seq = k.next_seq; last = k.last }) (λ c e k. k) kept.clients h.clients);
+          (Each-turn (λ (c : Client). c.number == n) (client_heard epoch) (ClientFits kept.attempts) (ClientFits kept.attempts) (λ c e k. record { reading = k.reading; last_time = k.last_time; next_seq = k.next_seq; last = k.last }) (λ c e k. k) kept.clients h.clients);
       sent = h.sent;
       settled = h.settled;
       decisions = h.decisions;
       validates = h.validates;
       homes = Each-weaker (λ (b : BegunView). IsSome (kept_client b.state.id.client kept.clients)) (λ (b : BegunView). IsSome (kept_client b.state.id.client clients)) (λ b k. home b.state.id.client k) kept.attempts h.homes;
       work = h.work;
+      takers = h.takers;
     }
   where
     home-heard : (m : ℕ) (cs : List Client) → IsSome (kept_client m cs) → IsSome (kept_client m (change_kept n (client_heard epoch) cs))

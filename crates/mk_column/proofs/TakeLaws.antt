@@ -139,9 +139,10 @@ begun-fits : (n : ℕ) (attempts : List BegunView) (replicas : List Held) (r : �
 begun-fits n attempts replicas r held KeptIdle h long k = tt
 begun-fits n attempts replicas r held (KeptFetching id replica key) h long k = absurd k
 begun-fits n attempts replicas r held (KeptValidating txn replica epoch state) h long k =
-    let within : r < length replicas = subst (λ m. r < m) (sym long) h in
-    (subst (λ m. m < n) (sym k.0) h,
-    subst (λ m. MayVoteAt m txn.id (slice_set replicas r held)) (sym k.0) (subst (λ (there : Held). IsSomeAnd (entry_of txn.id there.entries) (λ entry. may_vote entry ≡ true)) (sym (index-set replicas r held (record { entries = []; marks = [] }) within)) k.1))
+    let within : r < length replicas = subst (λ m. r < m) (sym long) h in (
+      subst (λ m. m < n) (sym k.0) h,
+      subst (λ m. MayVoteAt m txn.id (slice_set replicas r held)) (sym k.0) (subst (λ (there : Held). IsSomeAnd (entry_of txn.id there.entries) (λ entry. may_vote entry ≡ true)) (sym (index-set replicas r held (record { entries = []; marks = [] }) within)) k.1),
+    )
 begun-fits n attempts replicas r held (KeptFinishing replica left) h long k = tt
 
 -- what a replica's finishing teaches leaves what is decided
@@ -176,6 +177,7 @@ IsKept-finished f kept ends id finished h =
       decisions = λ q none. decision-stays q id finished kept.learned ∙ h.decisions q none;
       validates = h.validates;
       homes = h.homes;
+      takers = h.takers;
       work = h.work;
     }
   where
@@ -269,6 +271,7 @@ unseen-state round column msg idle none goes =
     idle-work (Fetching id replica key) e = absurd (false≢true e)
     idle-work (Validating txn replica epoch state) e = absurd (false≢true e)
     idle-work (Finishing replica left) e = absurd (false≢true e)
+
     takes : (o : Option Transaction) → on_some (replica_takes round msg) o column ≡ column
     takes None = refl
     takes (Some txn) =

@@ -209,7 +209,7 @@ impl Column {
     }
 
     // The takeover of this attempt at this view, as it is kept.
-    fn backup(&self, id: TxnId, view: u32) -> Option<&Backup>
+    pub(crate) fn backup(&self, id: TxnId, view: u32) -> Option<&Backup>
         ensures { option_map (λ (backup : BackupView). backup.of) (option_copied result) ≡ takeover_of self.now.state id view }
     {
         self.takeovers.find(Turn { id, view })
@@ -280,7 +280,7 @@ impl Column {
     }
 
     // Whether the replica that leads the view serves the epoch.
-    fn is_led(&self, epoch: u32, view: u32) -> bool
+    pub(crate) fn is_led(&self, epoch: u32, view: u32) -> bool
         ensures { result ≡ is_led_in self.now.setting epoch view }
     {
         let leader = view % self.size.n();

@@ -13,6 +13,7 @@ mod begun;
 mod clients;
 mod column;
 mod conditions;
+mod dispatch;
 mod hearing;
 mod hearing_takeover;
 mod learned;
