@@ -21,7 +21,6 @@ mod replica;
 mod sending;
 mod stamping;
 mod stepping;
-mod take_stub;
 mod takeovers;
 mod taking;
 mod work;
