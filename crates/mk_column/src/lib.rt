@@ -17,6 +17,7 @@ mod dispatch;
 mod hearing;
 mod hearing_takeover;
 mod learned;
+mod outlet;
 mod replica;
 mod sending;
 mod stamping;
@@ -26,6 +27,7 @@ mod taking;
 mod work;
 
 pub use column::Column;
+pub use outlet::{NoOutlet, Outlet};
 use mk_cell::{Act, Answer};
 pub use mk_merge::{Phase, ReplicaView};
 use mk_txn::{NoMemory, Outcome, ReadItem, Txn, TxnId, WriteItem};
