@@ -4,7 +4,7 @@ ghost use Rattle.mk_quorum.specs.Sizes.{members};
 ghost use Rattle.mk_msg.specs.Links.{goes_to_replica};
 ghost use Rattle.mk_column.specs.Answers.{is_led as is_led_in, takeover_answered};
 ghost use Rattle.mk_column.specs.ColumnByCode.{way_of, lesson_of, lesson_in};
-ghost use Rattle.mk_column.specs.ColumnState.{TakeoverOf, attempt_of, takeover_of, change_takeover};
+ghost use Rattle.mk_column.specs.ColumnState.{TakeoverOf, takeover_of, change_takeover};
 ghost use Rattle.mk_column.specs.Learnings.{by_message, learning, is_finishing};
 ghost use Rattle.mk_column.specs.Steps.{heard_taken, with_learning};
 
@@ -28,7 +28,11 @@ impl Column {
             return Ok(());
         }
         if let Some((outcome, way)) = self.lesson(msg) {
-            self.learn_heard(msg.id, outcome, way)?;
+            let turn = Turn {
+                id: msg.id,
+                view: msg.view,
+            };
+            self.learn_heard(turn, outcome, way)?;
         }
         self.hear_at(msg);
         Ok(())
@@ -63,13 +67,14 @@ impl Column {
         self.backup(id, view).unwrap().is_closed()
     }
 
-    // An outcome of an attempt is learned in this way, which is not by finishing.
-    fn learn_heard(&mut self, id: TxnId, outcome: Outcome, way: Way) -> Result<(), NoMemory>
-        requires known { IsSome (attempt_of self.old.state id) }
+    // The takeover, which is there, learns the outcome in this way, which is not by finishing.
+    fn learn_heard(&mut self, turn: Turn, outcome: Outcome, way: Way) -> Result<(), NoMemory>
+        requires there { IsSome (takeover_of self.old.state turn.id turn.view) }
         requires way { is_finishing (way_of way) ≡ false }
-        ensures ok { OnOk result (self.new ≡ record self.old { state = with_learning (learning id (way_of way) outcome) self.old.state }) }
+        ensures ok { OnOk result (self.new ≡ record self.old { state = with_learning (learning turn.id (way_of way) outcome) self.old.state }) }
         ensures err { OnErr result (self.new ≡ self.old) }
     {
+        let id = turn.id;
         self.learned.push(Learned { id, outcome, way })?;
         self.attempts.decide(id, outcome);
         Ok(())
