@@ -46,6 +46,7 @@ IsKept-worked f kept ends work h fits =
       decisions = h.decisions;
       validates = h.validates;
       homes = h.homes;
+      takers = h.takers;
       work = fits;
     }
 
@@ -80,6 +81,7 @@ IsKept-replied f kept ends replicas sent work h long within none fits =
       decisions = h.decisions;
       validates = λ id away. sym (none_validates id kept.link sent (none id)) ∙ h.validates id away;
       homes = h.homes;
+      takers = h.takers;
       work = fits;
     }
   where

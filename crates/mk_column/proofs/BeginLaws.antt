@@ -11,6 +11,7 @@ use Rattle.std.proofs.lemmas.Bool.{false≢true}
 use Rattle.std.proofs.lemmas.Bool.Decides.{nat_tests}
 use Rattle.std.proofs.lemmas.Option.{none-some, same_Some}
 use Rattle.mk_lists.specs.Among.{Each, Each-append, Each-weaker}
+use Rattle.mk_column.specs.TakeoversByCode.{BackupView}
 use Rattle.mk_lists.specs.Changed.{change, Each-change}
 use Rattle.mk_txn.specs.declared.TxnId.{TxnId}
 use Rattle.mk_txn.specs.Transactions.{same_id, Transaction}
@@ -87,21 +88,27 @@ settled-append id all new none = ap (passes (λ (b : BegunView). is_settled b.st
     and_true : (a : Bool) → a ≡ (a && true)
     and_true true = refl
     and_true false = refl
+
     and_false : (a : Bool) → (a && false) ≡ false
     and_false true = refl
     and_false false = refl
+
     or_false_right : (a b : Bool) → a ≡ (a || (b && false))
     or_false_right true b = refl
     or_false_right false true = refl
     or_false_right false false = refl
+
     with_other : (t : Bool) → same_id new.state.id id ≡ t → same_id id new.state.id ≡ t
     with_other t e = grind (arith, nat_tests, e)
+
     at_none : (o : Option BegunView) → o ≡ None → passes (λ (b : BegunView). is_settled b.state) (option_or o (Some new)) ≡ (passes (λ (b : BegunView). is_settled b.state) o || (is_settled new.state && true))
     at_none None e = and_true (is_settled new.state)
     at_none (Some b) e = absurd (none-some b (sym e))
+
     at_other : (o : Option BegunView) → passes (λ (b : BegunView). is_settled b.state) (option_or o None) ≡ (passes (λ (b : BegunView). is_settled b.state) o || (is_settled new.state && false))
     at_other None = sym (and_false (is_settled new.state))
     at_other (Some b) = or_false_right (is_settled b.state) (is_settled new.state)
+
     by_test : (t : Bool) → same_id new.state.id id ≡ t
         → passes (λ (b : BegunView). is_settled b.state) (option_or (begun_of id all) (cond t (Some new) None)) ≡ (passes (λ (b : BegunView). is_settled b.state) (begun_of id all) || (is_settled new.state && same_id id new.state.id))
     by_test true e =
@@ -144,13 +151,17 @@ none_last n k (b ∷ all) e = ((λ same reads. absurd (false≢true (sym here_no
     or_left : (a t : Bool) → (a || t) ≡ false → a ≡ false
     or_left true t h = h
     or_left false t h = refl
+
     or_right : (a t : Bool) → (a || t) ≡ false → t ≡ false
     or_right true t h = absurd (false≢true (sym h))
     or_right false t h = h
+
     here_not : (b.state.reading && b.state.id.client == n) ≡ false
     here_not = or_left (b.state.reading && b.state.id.client == n) (has_reading n all) e
+
     rest_not : has_reading n all ≡ false
     rest_not = or_right (b.state.reading && b.state.id.client == n) (has_reading n all) e
+
     here : b.state.id.client ≡ n → b.state.reading ≡ true → (b.state.reading && b.state.id.client == n) ≡ true
     here same reads = grind (arith, nat_tests, same, reads)
 
@@ -165,10 +176,10 @@ own-fits client epoch all new h idle is =
       reading = own_reading new.state.reading (new.state.id.client == client.number) (has_reading client.number all) here none ∙ sym (reading-append client.number all new);
       last_time = h.last_time;
       next_seq = Each-append (λ (b : BegunView). b.state.id.client ≡ client.number → b.state.id.seq < client.next_seq + 1) all (new ∷ [])
-      (Each-weaker (λ (b : BegunView). b.state.id.client ≡ client.number → b.state.id.seq < client.next_seq) (λ (b : BegunView). b.state.id.client ≡ client.number → b.state.id.seq < client.next_seq + 1) (λ b less same. more b.state.id.seq client.next_seq (less same)) all h.next_seq)
-      ((λ same. next_less new.state.id.seq client.next_seq of_seq), tt);
+          (Each-weaker (λ (b : BegunView). b.state.id.client ≡ client.number → b.state.id.seq < client.next_seq) (λ (b : BegunView). b.state.id.client ≡ client.number → b.state.id.seq < client.next_seq + 1) (λ b less same. more b.state.id.seq client.next_seq (less same)) all h.next_seq)
+          ((λ same. next_less new.state.id.seq client.next_seq of_seq), tt);
       last = Each-append (λ (b : BegunView). b.state.id.client ≡ client.number → b.state.reading ≡ true → b.state.id.seq + 1 ≡ client.next_seq + 1) all (new ∷ [])
-      (none_last client.number (client.next_seq + 1) all none) ((λ same reads. ap (λ k. k + 1) of_seq), tt);
+          (none_last client.number (client.next_seq + 1) all none) ((λ same reads. ap (λ k. k + 1) of_seq), tt);
     }
   where
     own_reading : (reads same any : Bool) → same ≡ true → any ≡ false → reads ≡ (any || (reads && same))
@@ -177,8 +188,10 @@ own-fits client epoch all new h idle is =
         and_true : (b : Bool) → b ≡ (b && true)
         and_true true = refl
         and_true false = refl
+
     more : (a b : ℕ) → a < b → a < b + 1
     more a b less = omega arith
+
     next_less : (a b : ℕ) → a ≡ b → a < b + 1
     next_less a b e = omega arith
 
@@ -198,6 +211,7 @@ other-fits n all new client is other h =
       where
         differs : (a b : ℕ) → a ≡ b → (a == b) ≡ false → ⊥
         differs a b e t = grind (arith, nat_tests, e, t)
+
     same_reading : (reads same any : Bool) → same ≡ false → any ≡ (any || (reads && same))
     same_reading reads same any e = rw e (by_both any reads)
       where
@@ -243,17 +257,18 @@ IsKept-begun f kept ends after client epoch new clients h found idle upto next s
       attempts = Each-append (AttemptFits f kept.link learned) kept.attempts (new ∷ []) h.attempts (new-fits f kept ends client new h none upto next, tt);
       takeovers = h.takeovers;
       clients = subst (Each (ClientFits (kept.attempts ++ new ∷ []))) (sym put)
-      (Each-turn (λ (c : Client). c.number == n) (λ before. client_begun epoch new.state.reading client) (ClientFits kept.attempts) (ClientFits (kept.attempts ++ new ∷ []))
-      (λ c same k. own-fits client epoch kept.attempts new fits idle next.id) (λ c other k. other-fits n kept.attempts new c of_client other k) kept.clients h.clients);
+          (Each-turn (λ (c : Client). c.number == n) (λ before. client_begun epoch new.state.reading client) (ClientFits kept.attempts) (ClientFits (kept.attempts ++ new ∷ []))
+          (λ c same k. own-fits client epoch kept.attempts new fits idle next.id) (λ c other k. other-fits n kept.attempts new c of_client other k) kept.clients h.clients);
       sent = h.sent;
       settled = λ id. settles id ∙ ap (λ b. b || (is_settled new.state && same_id id new.state.id)) (h.settled id) ∙ or_assoc (id.seq == 0) (passes (λ (b : BegunView). is_settled b.state) (begun_of id kept.attempts)) (is_settled new.state && same_id id new.state.id)
-      ∙ ap (λ b. (id.seq == 0) || b) (sym (settled-append id kept.attempts new none));
+          ∙ ap (λ b. (id.seq == 0) || b) (sym (settled-append id kept.attempts new none));
       decisions = λ id away. h.decisions id (none-append id kept.attempts new away);
       validates = λ id away. h.validates id (none-append id kept.attempts new away);
       homes = Each-append (λ (b : BegunView). IsSome (kept_client b.state.id.client clients)) kept.attempts (new ∷ [])
-      (Each-weaker (λ (b : BegunView). IsSome (kept_client b.state.id.client kept.clients)) (λ (b : BegunView). IsSome (kept_client b.state.id.client clients)) (λ b k. home b.state.id.client k) kept.attempts h.homes)
-      (subst (λ m. IsSome (kept_client m clients)) (sym of_client) (home n (subst IsSome (sym found) refl)), tt);
+          (Each-weaker (λ (b : BegunView). IsSome (kept_client b.state.id.client kept.clients)) (λ (b : BegunView). IsSome (kept_client b.state.id.client clients)) (λ b k. home b.state.id.client k) kept.attempts h.homes)
+          (subst (λ m. IsSome (kept_client m clients)) (sym of_client) (home n (subst IsSome (sym found) refl)), tt);
       work = work-begun (members f) kept.attempts new kept.replicas kept.work h.work;
+      takers = Each-weaker (λ (backup : BackupView). IsSome (begun_of backup.of.id kept.attempts)) (λ (backup : BackupView). IsSome (begun_of backup.of.id (kept.attempts ++ new ∷ []))) (λ backup k. work-begun 0 kept.attempts new [] (KeptFetching backup.of.id 0 0) k) kept.takeovers h.takers;
     }
   where
     or_assoc : (a b t : Bool) → ((a || b) || t) ≡ (a || (b || t))
@@ -375,7 +390,7 @@ unread-kept f kept ends later n client new after clients attempts h may is is_af
     let put : clients ≡ change_kept client.number (λ before. client_begun 0 false client) kept.clients = puts-turned kept.clients clients client after (λ before. client_begun 0 false client) same may.found (sym is_after) puts in
     subst (λ all. IsKept f (record kept { clients = clients; attempts = all }) later) (sym (pushed ∙ ap (λ b. kept.attempts ++ b ∷ []) is))
     (IsKept-begun f kept ends later client 0 begun_one clients h may.found may.idle may.upto (record { faults = refl; id = refl; txn = refl; validated = refl; decided = refl })
-      (λ id. settles id ∙ ap (λ b. is_kept_settled ends id || b) (turned_about (next_of client) id)) turned put)
+    (λ id. settles id ∙ ap (λ b. is_kept_settled ends id || b) (turned_about (next_of client) id)) turned put)
   where
     turned_about : (a b : TxnId) → same_id a b ≡ same_id b a
     turned_about a b = by_test (same_id a b) (same_id b a) refl refl

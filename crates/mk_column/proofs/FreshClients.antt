@@ -48,11 +48,11 @@ fresh-fit (x ∷ xs) = (record { reading = refl; last_time = omega arith; next_s
 pub start-view : (number version f keys : ℕ) (numbers : List ℕ) (views : List ReplicaView) (clients : List Client) (attempts : List BegunView) (takeovers : List BackupView) (replicas : List Held) (link : List Msg) (learned : List Learned) (log : List Step)
     → views ≡ [] → clients ≡ map fresh_client numbers → attempts ≡ [] → takeovers ≡ [] → replicas ≡ replicate (members f) nothing_held → link ≡ [] → learned ≡ [] → log ≡ []
     → (record {
-        number = number;
-        setting = record { version = version; faults = f; keys = keys; views = views };
-        state = column_of (record { clients = clients; attempts = attempts; takeovers = takeovers; replicas = replicas; link = link; work = KeptIdle; learned = learned });
-        log = log;
-      }) ≡ column_at_start number (record { version = version; faults = f; keys = keys; views = [] }) numbers
+      number = number;
+      setting = record { version = version; faults = f; keys = keys; views = views };
+      state = column_of (record { clients = clients; attempts = attempts; takeovers = takeovers; replicas = replicas; link = link; work = KeptIdle; learned = learned });
+      log = log;
+    }) ≡ column_at_start number (record { version = version; faults = f; keys = keys; views = [] }) numbers
 start-view number version f keys numbers views clients attempts takeovers replicas link learned log e0 e1 e2 e3 e4 e5 e6 e7 =
     let clients_are : client_states clients ≡ map new_client numbers = ap client_states e1 ∙ map-both client_state fresh_client new_client (λ n. refl) numbers in
     let records_are : map (λ (held : Held). held.entries) replicas ≡ replicate (members f) [] = ap (map (λ (held : Held). held.entries)) e4 ∙ map-replicate (λ (held : Held). held.entries) (members f) nothing_held in
@@ -92,5 +92,6 @@ start-kept f numbers ends clients attempts takeovers replicas link learned e1 e2
       decisions = λ id none. refl;
       validates = λ id none. refl;
       homes = tt;
+      takers = tt;
       work = tt;
     })

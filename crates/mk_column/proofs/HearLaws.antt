@@ -1,6 +1,6 @@
 -- What a column keeps when an own coordinator takes an answer.
 use Rattle.std.proofs.Common.{◌≡◌, ◌<◌, ℕ, Bool, true, false, cond, refl, sym, subst, ap, ◌∙◌, List, [], ◌∷◌, ◌++◌, Option, Some, None, ◌||◌, ◌&&◌, ◌==◌}
-use Rattle.std.specs.Prelude.{find, map, option_map, slice_get, not, IsSome, IsSomeAnd, if◌then◌else◌}
+use Rattle.std.specs.Prelude.{find, map, option_map, slice_get, not, Result, Ok, Err, OnOk, IsSome, IsSomeAnd, if◌then◌else◌}
 use Rattle.std.specs.Option.{option_or}
 use Rattle.std.proofs.lemmas.Bool.{false≢true}
 use Rattle.std.proofs.lemmas.List.{append-nil}
@@ -89,13 +89,14 @@ IsKept-heard f kept ends n epoch clients is h =
       attempts = h.attempts;
       takeovers = h.takeovers;
       clients = subst (Each (ClientFits kept.attempts)) (sym is)
-      (Each-turn (λ (c : Client). c.number == n) (client_heard epoch) (ClientFits kept.attempts) (ClientFits kept.attempts) (λ c e k. record { reading = k.reading; last_time = k.last_time; next_seq = k.next_seq; last = k.last }) (λ c e k. k) kept.clients h.clients);
+          (Each-turn (λ (c : Client). c.number == n) (client_heard epoch) (ClientFits kept.attempts) (ClientFits kept.attempts) (λ c e k. record { reading = k.reading; last_time = k.last_time; next_seq = k.next_seq; last = k.last }) (λ c e k. k) kept.clients h.clients);
       sent = h.sent;
       settled = h.settled;
       decisions = h.decisions;
       validates = h.validates;
       homes = Each-weaker (λ (b : BegunView). IsSome (kept_client b.state.id.client kept.clients)) (λ (b : BegunView). IsSome (kept_client b.state.id.client clients)) (λ b k. home b.state.id.client k) kept.attempts h.homes;
       work = h.work;
+      takers = h.takers;
     }
   where
     home-heard : (m : ℕ) (cs : List Client) → IsSome (kept_client m cs) → IsSome (kept_client m (change_kept n (client_heard epoch) cs))
@@ -175,3 +176,48 @@ own-state round column msg own hears body goes is =
 -- what no client hears changes no client
 pub unheard-state : (n : ℕ) (clients : List ClientState) → change (is_client n) (λ (c : ClientState). c) clients ≡ clients
 unheard-state n clients = change-same (is_client n) (λ (c : ClientState). c) (λ c. refl) clients
+
+quiet-own : (id : TxnId) (n : ℕ) (g : AttemptState → AttemptState) (column : ColumnState) (before after : List Learning) (body : Body) → ((c : ClientState) → heard_of body c ≡ c) → before ≡ after
+    → record (change_attempt id g column) { learned = before } ≡ record (change_client n (heard_of body) (change_attempt id g column)) { learned = after }
+quiet-own id n g column before after body same learns =
+    λ i. record (change_attempt id g column) { clients = sym (change-same (is_client n) (heard_of body) same column.clients) i; learned = learns i }
+
+-- an own coordinator that is told
+pub told-own : (round : Setting) (column : ColumnState) (msg : Msg) → (msg.view == 0) ≡ true → listens (attempt_of column msg.id) ≡ true → (told : Told) → msg.body ≡ ToldBody told
+    → taught_in msg.id ByTelling told.last column ≡ heard_taken round msg column
+told-own round column msg own hears told is =
+    quiet-own msg.id msg.id.client (taught_where told.last) column (column.learned ++ learning_of msg.id ByTelling told.last) (column.learned ++ learning_of msg.id ByTelling told.last) (ToldBody told) (λ c. refl) refl
+    ∙ own-state round column msg own hears (ToldBody told) refl is
+
+counts-quiet : (body : Body) → counts body ≡ true → (c : ClientState) → heard_of body c ≡ c
+counts-quiet (Voted vote) e c = refl
+counts-quiet AcceptedBody e c = refl
+counts-quiet (ValidateBody mark) e c = refl
+counts-quiet (Accept outcome) e c = refl
+counts-quiet (Decide outcome) e c = refl
+counts-quiet Ask e c = refl
+counts-quiet (ToldBody told) e c = refl
+counts-quiet (MovedBody moved) e c = absurd (false≢true e)
+
+counts-nothing : (id : TxnId) (body : Body) → counts body ≡ true → teaches id body ≡ []
+counts-nothing id (Voted vote) e = refl
+counts-nothing id AcceptedBody e = refl
+counts-nothing id (ValidateBody mark) e = refl
+counts-nothing id (Accept outcome) e = refl
+counts-nothing id (Decide outcome) e = refl
+counts-nothing id Ask e = refl
+counts-nothing id (ToldBody told) e = absurd (false≢true e)
+counts-nothing id (MovedBody moved) e = absurd (false≢true e)
+
+-- an own coordinator that counts
+pub counted-own : (round : Setting) (column : ColumnState) (msg : Msg) → (msg.view == 0) ≡ true → listens (attempt_of column msg.id) ≡ true → goes_to_replica msg.body ≡ false → counts msg.body ≡ true
+    → change_attempt msg.id (attempt_answered msg.replica msg.body) column ≡ heard_taken round msg column
+counted-own round column msg own hears goes counted =
+    quiet-own msg.id msg.id.client (attempt_answered msg.replica msg.body) column column.learned (column.learned ++ teaches msg.id msg.body) msg.body (counts-quiet msg.body counted)
+    (sym (append-nil column.learned) ∙ ap (λ all. column.learned ++ all) (sym (counts-nothing msg.id msg.body counted)))
+    ∙ own-state round column msg own hears msg.body goes refl
+
+-- what holds where a call answers Ok, as it follows
+pub ok-then : {T E : Type 0} (r : Result T E) (P Q : Type 0) → (P → Q) → OnOk r P → OnOk r Q
+ok-then (Ok x) P Q f h = f h
+ok-then (Err x) P Q f h = tt

@@ -103,6 +103,7 @@ module _ (id : TxnId) (g : BegunView → BegunView) (keeps : KeepsPlace g) where
         validates = λ q none. t.validates q (none-before q kept.attempts none);
         homes = Each-turn (is_begun id) g _ _ (λ b e there. subst (λ i. IsSome (kept_client i.client kept.clients)) (sym (keeps.id b)) there) (λ b e there. there) kept.attempts h.homes;
         work = work-turned (members f) kept.attempts kept.replicas kept.work h.work;
+        takers = Each-weaker (λ (backup : BackupView). IsSome (begun_of backup.of.id kept.attempts)) (λ (backup : BackupView). IsSome (begun_of backup.of.id (change_begun id g kept.attempts))) (λ backup k. some-after backup.of.id kept.attempts k) kept.takeovers h.takers;
       })
 
   -- a settling that stays is found as before

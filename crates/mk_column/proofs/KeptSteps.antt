@@ -64,6 +64,7 @@ IsKept-sends f kept ends link msgs is quiet there h =
       validates = λ q none. same q ∙ h.validates q none;
       homes = h.homes;
       work = h.work;
+      takers = h.takers;
     })
   where
     same : (q : TxnId) → list_any (is_validate_of q) (kept.link ++ msgs) ≡ list_any (is_validate_of q) kept.link
@@ -284,8 +285,8 @@ IsKept-tells f epoch id view body kept ends link is other h =
 
 -- ---- takeovers are changed, or one is joined
 
-pub IsKept-takeovers : (f : ℕ) (kept : Kept) (ends : SettledAttempts) (takeovers : List BackupView) → Each (λ backup. backup.faults ≡ f) takeovers → IsKept f kept ends → IsKept f (record kept { takeovers = takeovers }) ends
-IsKept-takeovers f kept ends takeovers made h =
+pub IsKept-takeovers : (f : ℕ) (kept : Kept) (ends : SettledAttempts) (takeovers : List BackupView) → Each (λ backup. backup.faults ≡ f) takeovers → Each (λ backup. IsSome (begun_of backup.of.id kept.attempts)) takeovers → IsKept f kept ends → IsKept f (record kept { takeovers = takeovers }) ends
+IsKept-takeovers f kept ends takeovers made known h =
     record {
       replicas = h.replicas;
       attempts = h.attempts;
@@ -297,18 +298,23 @@ IsKept-takeovers f kept ends takeovers made h =
       validates = h.validates;
       homes = h.homes;
       work = h.work;
+      takers = known;
     }
 
-pub IsKept-takeover_changed : (f : ℕ) (turn : Turn) (g : TakeoverOf → TakeoverOf) (kept : Kept) (ends : SettledAttempts) (takeovers : List BackupView) → takeovers ≡ change_backup turn (on_backup g) kept.takeovers → IsKept f kept ends
+pub IsKept-takeover_changed : (f : ℕ) (turn : Turn) (g : TakeoverOf → TakeoverOf) (kept : Kept) (ends : SettledAttempts) (takeovers : List BackupView) → ((t : TakeoverOf) → (g t).id ≡ t.id) → takeovers ≡ change_backup turn (on_backup g) kept.takeovers → IsKept f kept ends
     → IsKept f (record kept { takeovers = takeovers }) ends
-IsKept-takeover_changed f turn g kept ends takeovers is h =
+IsKept-takeover_changed f turn g kept ends takeovers keeps is h =
+    let here : BackupView → Bool = λ backup. is_takeover turn.id turn.view backup.of in
     IsKept-takeovers f kept ends takeovers
-    (subst (Each (λ (backup : BackupView). backup.faults ≡ f)) (sym is)
-    (Each-change (λ (backup : BackupView). is_takeover turn.id turn.view backup.of) (on_backup g) (λ backup. backup.faults ≡ f) (λ backup t made. made) kept.takeovers h.takeovers))
+    (subst (Each (λ (backup : BackupView). backup.faults ≡ f)) (sym is) (Each-change here (on_backup g) (λ backup. backup.faults ≡ f) (λ backup t made. made) kept.takeovers h.takeovers))
+    (subst (Each (λ (backup : BackupView). IsSome (begun_of backup.of.id kept.attempts))) (sym is)
+    (Each-change here (on_backup g) (λ backup. IsSome (begun_of backup.of.id kept.attempts)) (λ backup t known. subst (λ i. IsSome (begun_of i kept.attempts)) (sym (keeps backup.of)) known) kept.takeovers h.takers))
     h
 
-pub IsKept-takes_over : (f : ℕ) (backup : BackupView) (kept : Kept) (ends : SettledAttempts) (takeovers : List BackupView) → takeovers ≡ kept.takeovers ++ backup ∷ [] → backup.faults ≡ f → IsKept f kept ends
+pub IsKept-takes_over : (f : ℕ) (backup : BackupView) (kept : Kept) (ends : SettledAttempts) (takeovers : List BackupView) → takeovers ≡ kept.takeovers ++ backup ∷ [] → backup.faults ≡ f → IsSome (begun_of backup.of.id kept.attempts) → IsKept f kept ends
     → IsKept f (record kept { takeovers = takeovers }) ends
-IsKept-takes_over f backup kept ends takeovers is made h =
+IsKept-takes_over f backup kept ends takeovers is made known h =
     IsKept-takeovers f kept ends takeovers
-    (subst (Each (λ (b : BackupView). b.faults ≡ f)) (sym is) (Each-append (λ (b : BackupView). b.faults ≡ f) kept.takeovers (backup ∷ []) h.takeovers (made, tt))) h
+    (subst (Each (λ (b : BackupView). b.faults ≡ f)) (sym is) (Each-append (λ (b : BackupView). b.faults ≡ f) kept.takeovers (backup ∷ []) h.takeovers (made, tt)))
+    (subst (Each (λ (b : BackupView). IsSome (begun_of b.of.id kept.attempts))) (sym is) (Each-append (λ (b : BackupView). IsSome (begun_of b.of.id kept.attempts)) kept.takeovers (backup ∷ []) h.takers (known, tt)))
+    h

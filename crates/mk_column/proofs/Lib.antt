@@ -23,3 +23,4 @@ pub mod StampedLaws
 pub mod AnswerLaws
 pub mod TakeLaws
 pub mod HearLaws
+pub mod GrownLaws

@@ -1,6 +1,6 @@
 -- What changing some members of a list, and appending to it, leaves.
 use Rattle.std.proofs.Common.{◌≡◌, Bool, true, false, cond, refl, sym, ap, ◌∙◌, ◌||◌, List, [], ◌∷◌, ◌++◌, Option, Some, None}
-use Rattle.std.specs.Prelude.{find, map, option_map}
+use Rattle.std.specs.Prelude.{find, map, option_map, IsSome}
 use Rattle.std.specs.List.{list_any}
 use Rattle.mk_lists.specs.Among.{Each}
 use Rattle.mk_lists.specs.Changed.{change}
@@ -63,6 +63,11 @@ module _ {X : Type 0} (p : X → Bool) (f : X → X) where
       by_test : (b : Bool) → t (cond b (f x) x) ≡ t x
       by_test true = keeps x
       by_test false = refl
+
+-- what is there is there under a map
+pub map-there : {X Y : Type 0} (f : X → Y) (o : Option X) → IsSome o → IsSome (option_map f o)
+map-there f None h = absurd (cc h)
+map-there f (Some x) h = refl
 
 -- none is found after a change where none was
 pub none-from_map : {X Y : Type 0} (f : X → Y) (o : Option X) → option_map f o ≡ None → o ≡ None

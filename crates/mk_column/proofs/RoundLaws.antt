@@ -7,7 +7,9 @@ use Rattle.mk_quorum.specs.Sizes.{members}
 use Rattle.mk_column.specs.Replicas.{Held}
 use Rattle.mk_column.specs.declared.work.Work.{Work as KeptWork}
 use Rattle.mk_column.specs.declared.work.Work.TheVariants.{Idle as KeptIdle, Fetching as KeptFetching, Validating as KeptValidating, Finishing as KeptFinishing}
-use Rattle.mk_lists.specs.Among.{Each}
+use Rattle.mk_lists.specs.Among.{Each, Each-weaker}
+use Rattle.mk_column.specs.TakeoversByCode.{BackupView}
+use Rattle.mk_column.proofs.ListLaws.{map-there}
 use Rattle.mk_txn.specs.declared.TxnId.{TxnId}
 use Rattle.mk_quorum.specs.Slots.{passes}
 use Rattle.mk_trim.specs.SettledAttempts.{SettledAttempts}
@@ -92,6 +94,7 @@ IsKept-quiet f kept ends h =
       validates = λ id none. h.validates id (none-quiet id kept.attempts none);
       homes = Each-map (λ (begun : BegunView). IsSome (kept_client begun.state.id.client kept.clients)) (λ (begun : BegunView). IsSome (kept_client begun.state.id.client (map silent kept.clients))) quiet (λ begun k. home-quiet begun.state.id.client kept.clients k) kept.attempts h.homes;
       work = work-quiet (members f) kept.attempts kept.replicas kept.work h.work;
+      takers = Each-weaker (λ (backup : BackupView). IsSome (begun_of backup.of.id kept.attempts)) (λ (backup : BackupView). IsSome (begun_of backup.of.id (map quiet kept.attempts))) (λ backup k. subst IsSome (sym (begun-quiet backup.of.id kept.attempts)) (map-there quiet (begun_of backup.of.id kept.attempts) k)) kept.takeovers h.takers;
     }
 
 -- a round that begins, as contracts see it

@@ -7,6 +7,7 @@ use Rattle.std.proofs.lemmas.Bool.{false≢true}
 use Rattle.std.proofs.lemmas.Bool.Decides.{nat_tests}
 use Rattle.std.proofs.lemmas.Option.{none-some, same_Some}
 use Rattle.mk_lists.specs.Among.{Each, Each-weaker}
+use Rattle.mk_column.specs.TakeoversByCode.{BackupView}
 use Rattle.mk_lists.specs.Changed.{change}
 use Rattle.mk_txn.specs.declared.TxnId.{TxnId}
 use Rattle.mk_txn.specs.declared.Stamp.{Stamp as StampType}
@@ -29,7 +30,7 @@ use Rattle.mk_column.specs.Steps.{on_some, stamping, stamped, stamped_txn, with_
 use Rattle.mk_column.specs.AttemptsByCode.{BegunView, on_state, is_begun, begun_of, change_begun, states_of}
 use Rattle.mk_column.specs.ColumnByCode.{Kept, IsKept, AttemptFits, ClientFits, WorkFits, has_reading, learning_of_kept, column_of}
 use Rattle.mk_column.proofs.ColumnLaws.{client-found, attempt-found, find-passes, Each-find}
-use Rattle.mk_column.proofs.ListLaws.{Each-turn, find-change, map-change, changed_member, passes-changed, none-from_map}
+use Rattle.mk_column.proofs.ListLaws.{Each-turn, find-change, map-change, changed_member, passes-changed, none-from_map, map-there}
 use Rattle.mk_column.proofs.KeptLaws.{idle-fits}
 use Rattle.mk_column.proofs.StepLaws.{begun-there, there-from_passes, states-changed}
 use Rattle.mk_column.proofs.BeginLaws.{Puts, puts-turned}
@@ -61,6 +62,7 @@ none_reads id txn k (b ∷ all) e h = by_test (is_begun id b) refl (none_reads i
       where
         both : (c s : ℕ) → c ≡ id.client → s ≡ id.seq → (c == id.client && s == id.seq) ≡ true
         both c s p q = grind (arith, nat_tests, p, q)
+
     by_test : (t : Bool) → is_begun id b ≡ t → has_reading id.client (change_begun id (begun_stamped txn) all) ≡ false
         → ((cond t (begun_stamped txn b) b).state.reading && (cond t (begun_stamped txn b) b).state.id.client == id.client || has_reading id.client (change_begun id (begun_stamped txn) all)) ≡ false
     by_test true here ih = ih
@@ -73,9 +75,11 @@ others_read id txn m (b ∷ all) e = by_test (is_begun id b) refl (others_read i
   where
     apart : is_begun id b ≡ true → (b.state.id.client == m) ≡ false
     apart here = ap (λ (i : TxnId). i.client == m) (same_id-tells b.state.id id here) ∙ e
+
     and_false : (r s : Bool) → s ≡ false → false ≡ (r && s)
     and_false true s k = sym k
     and_false false s k = refl
+
     by_test : (t : Bool) → is_begun id b ≡ t → has_reading m (change_begun id (begun_stamped txn) all) ≡ has_reading m all
         → ((cond t (begun_stamped txn b) b).state.reading && (cond t (begun_stamped txn b) b).state.id.client == m || has_reading m (change_begun id (begun_stamped txn) all)) ≡ (b.state.reading && b.state.id.client == m || has_reading m all)
     by_test true here ih = ih ∙ ap (λ r. r || has_reading m all) (and_false b.state.reading (b.state.id.client == m) (apart here))
@@ -149,13 +153,14 @@ IsKept-stamped f kept ends id begun client after txn clients attempts h s change
       attempts = Each-turn (is_begun id) (begun_stamped txn) (AttemptFits f kept.link learned) (AttemptFits f kept.link learned) (λ b here k. fits-stamped f kept.link learned id txn b s.named here k) (λ b other k. k) kept.attempts h.attempts;
       takeovers = h.takeovers;
       clients = subst (Each (ClientFits all)) (sym put)
-      (Each-turn (λ (c : Client). c.number == n) (λ before. client_stamped time client) (ClientFits kept.attempts) (ClientFits all) (λ c same k. own) (λ c other k. other-fits id txn kept.attempts c other k) kept.clients h.clients);
+          (Each-turn (λ (c : Client). c.number == n) (λ before. client_stamped time client) (ClientFits kept.attempts) (ClientFits all) (λ c same k. own) (λ c other k. other-fits id txn kept.attempts c other k) kept.clients h.clients);
       sent = h.sent;
       settled = λ q. h.settled q ∙ ap (λ b. (q.seq == 0) || b) (sym (ap (passes (λ (b : BegunView). is_settled b.state)) (begun-after id txn q kept.attempts) ∙ passes-changed (is_begun id) (begun_stamped txn) (λ b. is_settled b.state) (λ b. refl) (begun_of q kept.attempts)));
       decisions = λ q none. h.decisions q (none-after id txn q kept.attempts none);
       validates = λ q none. h.validates q (none-after id txn q kept.attempts none);
       homes = Each-turn (is_begun id) (begun_stamped txn) _ _ (λ b e there. home b.state.id.client there) (λ b e there. home b.state.id.client there) kept.attempts h.homes;
       work = idle-fits (members f) all kept.replicas kept.work s.idle;
+      takers = Each-weaker (λ (backup : BackupView). IsSome (begun_of backup.of.id kept.attempts)) (λ (backup : BackupView). IsSome (begun_of backup.of.id all)) (λ backup k. subst IsSome (sym (begun-after id txn backup.of.id kept.attempts)) (map-there (changed_member (is_begun id) (begun_stamped txn)) (begun_of backup.of.id kept.attempts) k)) kept.takeovers h.takers;
     })
   where
     home-stamped : (n m time : ℕ) (cs : List Client) → IsSome (kept_client m cs) → IsSome (kept_client m (change_kept n (client_stamped time) cs))
@@ -164,6 +169,7 @@ IsKept-stamped f kept ends id begun client after txn clients attempts h s change
         from : (o : Option Client) → IsSome o → IsSome (option_map (changed_member (λ (c : Client). c.number == n) (client_stamped time)) o)
         from None j = absurd (false≢true j)
         from (Some c) j = refl
+
     other-fits : (id : TxnId) (txn : Transaction) (bs : List BegunView) (c : Client) → (c.number == id.client) ≡ false → ClientFits bs c → ClientFits (change_begun id (begun_stamped txn) bs) c
     other-fits id txn bs c other k =
         let apart : (id.client == c.number) ≡ false = back c.number id.client other in

@@ -1,6 +1,6 @@
 -- What a column keeps when a replica takes a message.
 use Rattle.std.proofs.Common.{◌≡◌, ◌<◌, ℕ, zero, suc, Bool, true, false, refl, sym, subst, ap, ◌∙◌, List, [], ◌∷◌, ◌++◌, Option, Some, None, ◌||◌, ◌&&◌, not, length, length-set, get_or, arith, cond}
-use Rattle.std.specs.Prelude.{find, map, option_map, option_and_then, slice_get, slice_set, slice_index_or, is_some, nat_lt, option_copied, IsSome, IsSomeAnd, if◌then◌else◌}
+use Rattle.std.specs.Prelude.{find, map, option_map, option_and_then, slice_get, slice_set, slice_index_or, is_some, nat_lt, nat_le, ◌-◌, option_copied, IsSome, IsSomeAnd, if◌then◌else◌}
 use Rattle.std.specs.List.{list_any}
 use Rattle.std.specs.Option.{option_or}
 use Rattle.std.proofs.lemmas.List.{map-set, map-append, append-nil, set-get_or}
@@ -17,7 +17,7 @@ use Rattle.mk_record.specs.Entries.{entry_of, opened, may_vote}
 use Rattle.mk_msg.specs.declared.Msg.{Msg}
 use Rattle.mk_msg.specs.declared.Body.{Body}
 use Rattle.mk_msg.specs.declared.Body.TheVariants.{Validate as ValidateBody, Voted, Accept, Accepted as AcceptedBody, Decide, Ask, Told as ToldBody, Moved as MovedBody}
-use Rattle.mk_msg.specs.Links.{goes_to_replica}
+use Rattle.mk_msg.specs.Links.{goes_to_replica, message}
 use Rattle.mk_valid.specs.Checks.{KeyAct}
 use Rattle.mk_quorum.specs.Sizes.{members}
 use Rattle.mk_quorum.specs.Slots.{passes}
@@ -27,16 +27,18 @@ use Rattle.mk_column.specs.declared.learned.Learned.{Learned}
 use Rattle.mk_column.specs.declared.learned.Way.TheVariants.{Finishing as KeptFinished}
 use Rattle.std.specs.Borrow.{Bor}
 use Rattle.std.specs.Slice.{IsItemAt}
-use Rattle.std.proofs.lemmas.Option.{none-some, slice_get_past, slice_get_read}
+use Rattle.std.proofs.lemmas.Option.{none-some, same_Some, slice_get_past, slice_get_read}
 use Rattle.mk_column.specs.declared.work.Work.{Work as KeptWork}
 use Rattle.mk_column.specs.declared.work.Work.TheVariants.{Idle as KeptIdle, Fetching as KeptFetching, Validating as KeptValidating, Finishing as KeptFinishing}
 use Rattle.mk_column.specs.ColumnState.{Setting, ColumnState, Learning, Work, AttemptState, is_attempt, entries_at, marks_at}
 use Rattle.mk_column.specs.ColumnState.Work.{Idle, Fetching, Validating, Finishing}
 use Rattle.mk_column.specs.Conditions.{is_validate_of, is_idle}
 use Rattle.mk_column.specs.HeldByCode.{work_of, sent_of, reaction_with}
-use Rattle.mk_column.specs.Learnings.{txn_of, is_decision_of, is_final, is_finished_by, finished_by, by_message}
+use Rattle.mk_column.specs.Learnings.{txn_of, is_decision_of, is_final, is_finished_by, finished_by, by_message, by_taken}
 use Rattle.mk_column.specs.Replicas.{Held, Reaction, reply, ignored, answering, entry_or_opened, with_entry, marking, reaction, reaction_by_view, moved_reaction, validate_known, validate_unfinished, ask_known, ask_unfinished, accept_known, accept_unfinished, decide_known, finishing, is_serving, serves, held_at, reacted}
-use Rattle.mk_column.specs.Steps.{on_some, replica_takes, delivered}
+use Rattle.mk_column.specs.Steps.{on_some, replica_takes, delivered, heard_taken, taken, column_after}
+use Rattle.mk_column.specs.Answers.{answer_taken}
+use Rattle.mk_column.specs.declared.Step.TheVariants.{Take}
 use Rattle.mk_column.specs.AttemptsByCode.{BegunView, begun_of, is_begun, states_of}
 use Rattle.mk_column.specs.ColumnByCode.{Kept, IsKept, AttemptFits, WorkFits, MayVoteAt, first_decision, learning_of_kept, finish_kept, column_of}
 use Rattle.mk_column.proofs.Frames.{either_way}
@@ -137,9 +139,10 @@ begun-fits : (n : ℕ) (attempts : List BegunView) (replicas : List Held) (r : �
 begun-fits n attempts replicas r held KeptIdle h long k = tt
 begun-fits n attempts replicas r held (KeptFetching id replica key) h long k = absurd k
 begun-fits n attempts replicas r held (KeptValidating txn replica epoch state) h long k =
-    let within : r < length replicas = subst (λ m. r < m) (sym long) h in
-    (subst (λ m. m < n) (sym k.0) h,
-    subst (λ m. MayVoteAt m txn.id (slice_set replicas r held)) (sym k.0) (subst (λ (there : Held). IsSomeAnd (entry_of txn.id there.entries) (λ entry. may_vote entry ≡ true)) (sym (index-set replicas r held (record { entries = []; marks = [] }) within)) k.1))
+    let within : r < length replicas = subst (λ m. r < m) (sym long) h in (
+      subst (λ m. m < n) (sym k.0) h,
+      subst (λ m. MayVoteAt m txn.id (slice_set replicas r held)) (sym k.0) (subst (λ (there : Held). IsSomeAnd (entry_of txn.id there.entries) (λ entry. may_vote entry ≡ true)) (sym (index-set replicas r held (record { entries = []; marks = [] }) within)) k.1),
+    )
 begun-fits n attempts replicas r held (KeptFinishing replica left) h long k = tt
 
 -- what a replica's finishing teaches leaves what is decided
@@ -174,6 +177,7 @@ IsKept-finished f kept ends id finished h =
       decisions = λ q none. decision-stays q id finished kept.learned ∙ h.decisions q none;
       validates = h.validates;
       homes = h.homes;
+      takers = h.takers;
       work = h.work;
     }
   where
@@ -267,6 +271,7 @@ unseen-state round column msg idle none goes =
     idle-work (Fetching id replica key) e = absurd (false≢true e)
     idle-work (Validating txn replica epoch state) e = absurd (false≢true e)
     idle-work (Finishing replica left) e = absurd (false≢true e)
+
     takes : (o : Option Transaction) → on_some (replica_takes round msg) o column ≡ column
     takes None = refl
     takes (Some txn) =
@@ -309,3 +314,28 @@ txn-named f link learned id all txn h e = by_found (begun_of id all) refl e
 pub item-at : {X : Type 0} (xs : List X) (place : ℕ) (got : Option (Bor X)) → IsItemAt xs place got → option_copied got ≡ slice_get xs place
 item-at xs place None h = sym (slice_get_past xs place h.3)
 item-at xs place (Some x) h = sym (slice_get_read xs (length xs) place x.now refl h.3.0 h.1)
+
+-- ---- the step
+
+Each-got : (P : Msg → Type 0) (xs : List Msg) (n : ℕ) (x : Msg) → Each P xs → slice_get xs n ≡ Some x → P x
+Each-got P [] n x h e = absurd (none-some x e)
+Each-got P (first ∷ xs) zero x h e = subst P (same_Some first x e) h.0
+Each-got P (first ∷ xs) (suc n) x h e = Each-got P xs n x h.1 e
+
+-- what each message has, the message of a number has
+pub Each-message : (P : Msg → Type 0) (link : List Msg) (number : ℕ) (msg : Msg) → Each P link → message link number ≡ Some msg → P msg
+Each-message P link number msg h e = by_test (nat_le 1 number) e
+  where
+    by_test : (t : Bool) → (if t then slice_get link (number - 1) else None) ≡ Some msg → P msg
+    by_test true k = Each-got P link (number - 1) msg h k
+    by_test false k = absurd (none-some msg k)
+
+pub take-delivered : (round : Setting) (column : ColumnState) (number : ℕ) (msg : Msg) → message column.link number ≡ Some msg → goes_to_replica msg.body ≡ true → delivered round msg column ≡ column_after round column (Take number)
+take-delivered round column number msg found goes =
+    sym (ap (λ (o : Option Msg). let after = on_some (taken round) o column in record after { learned = column.learned ++ by_taken round column o }) found
+    ∙ ap (λ t. record (if t then on_some (replica_takes round msg) (txn_of column msg.id) column else answer_taken round msg column) { learned = column.learned ++ by_message round column msg msg.body }) goes)
+
+pub take-heard : (round : Setting) (column : ColumnState) (number : ℕ) (msg : Msg) → message column.link number ≡ Some msg → goes_to_replica msg.body ≡ false → heard_taken round msg column ≡ column_after round column (Take number)
+take-heard round column number msg found goes =
+    sym (ap (λ (o : Option Msg). let after = on_some (taken round) o column in record after { learned = column.learned ++ by_taken round column o }) found
+    ∙ ap (λ t. record (if t then on_some (replica_takes round msg) (txn_of column msg.id) column else answer_taken round msg column) { learned = column.learned ++ by_message round column msg msg.body }) goes)

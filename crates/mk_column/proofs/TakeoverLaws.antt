@@ -1,23 +1,32 @@
 -- What the tables of a column tell of its takeovers, and what is done by a pick.
-use Rattle.std.proofs.Common.{◌≡◌, ℕ, Bool, true, false, refl, sym, ap, subst, ◌∙◌, List, [], ◌∷◌, ◌++◌, Option, Some, None, IsSome}
-use Rattle.std.specs.Prelude.{find, map, option_map, IsSomeAnd}
+use Rattle.std.proofs.Common.{◌≡◌, ℕ, ◌<◌, Bool, true, false, cond, not, ◌&&◌, ◌==◌, refl, sym, ap, subst, ◌∙◌, List, [], ◌∷◌, ◌++◌, Option, Some, None, IsSome}
+use Rattle.std.specs.Prelude.{find, map, is_some, option_map, IsSomeAnd}
 use Rattle.std.proofs.lemmas.Option.{none-some, same_Some}
 use Rattle.mk_lists.specs.Among.{Each}
 use Rattle.mk_lists.specs.Changed.{change}
 use Rattle.mk_txn.specs.declared.TxnId.{TxnId}
-use Rattle.mk_msg.specs.declared.Body.TheVariants.{Accept, Decide, Ask}
+use Rattle.mk_msg.specs.declared.Body.{Body}
+use Rattle.mk_msg.specs.declared.Body.TheVariants.{Validate as ValidateBody, Voted, Accept, Accepted as AcceptedBody, Decide, Ask, Told as ToldBody, Moved as MovedBody}
+use Rattle.mk_msg.specs.declared.Msg.{Msg}
+use Rattle.mk_msg.specs.Links.{goes_to_replica}
+use Rattle.mk_quorum.specs.Sizes.{members}
+use Rattle.mk_quorum.specs.Slots.{passes}
+use Rattle.mk_column.specs.Answers.{is_led, state_answered, takeover_answered, takeover_heard, answer_taken}
 use Rattle.mk_takeover.specs.declared.Pick.{Pick}
 use Rattle.mk_takeover.specs.declared.Pick.TheVariants.{Known, Learned as PickLearned, Propose as PickPropose, Short as PickShort, Unaccepted as PickUnaccepted, Unclear}
 use Rattle.mk_takeover.specs.Picks.{pick}
 use Rattle.mk_column.specs.declared.Attempt.{Attempt}
 use Rattle.mk_column.specs.declared.backup.Turn.{Turn}
 use Rattle.mk_column.specs.declared.Step.TheVariants.{Takeover, Pick as PickStep}
-use Rattle.mk_column.specs.ColumnState.{ColumnState, Setting, AttemptState, TakeoverOf, attempt_of, takeover_of, is_takeover, change_takeover, shown, send, to_all}
+use Rattle.mk_column.specs.ColumnState.{ColumnState, Setting, AttemptState, TakeoverOf, Learning, attempt_of, takeover_of, is_takeover, change_takeover, shown, send, to_all}
 use Rattle.mk_column.specs.ColumnState.Way.{ByTelling, ByPick}
-use Rattle.mk_column.specs.Learnings.{learning, by_pick, by_takeover}
-use Rattle.mk_column.specs.Steps.{column_after, on_some, picked, picking, taken_over, closing, takeover_proposing, with_learning}
+use Rattle.mk_column.specs.Learnings.{learning, by_pick, by_takeover, by_message, is_heard}
+use Rattle.mk_column.specs.Steps.{heard_taken, column_after, on_some, picked, picking, taken_over, closing, takeover_proposing, with_learning}
 use Rattle.mk_column.specs.TakeoversByCode.{BackupView, backup_of, backup_begun, takeovers_of, change_backup, on_backup}
-use Rattle.mk_column.proofs.ColumnLaws.{takeover-found, Each-find}
+use Rattle.mk_column.proofs.ColumnLaws.{takeover-found, Each-find, find-passes}
+use Rattle.mk_txn.specs.Transactions.{same_id}
+use Rattle.mk_txn.proofs.IdOrder.{same_id-tells}
+use Rattle.mk_column.specs.AttemptsByCode.{BegunView, begun_of}
 use Rattle.mk_column.proofs.ListLaws.{map-change, none-from_map}
 use Rattle.mk_column.proofs.StepLaws.{some-from_map, none-learned, attempt-named}
 
@@ -96,3 +105,82 @@ takeover-state round column id view s found = by_found (attempt_of column id) re
     by_found None there e = absurd (none-some s e)
     by_found (Some a) there e =
         ap (λ (x : Attempt). begun x.epoch id) (sym (same_Some (shown a) s e)) ∙ ap (begun a.epoch) (sym (attempt-named column id a there)) ∙ none-learned (begun a.epoch a.id) column.learned
+
+-- ---- what is heard
+
+-- a takeover that is there is made for the column's replicas
+pub backup-sized : (f r : ℕ) (turn : Turn) (all : List BackupView) → Each (λ b. b.faults ≡ f) all → r < members f → IsSome (backup_of turn all) → IsSomeAnd (backup_of turn all) (λ b. r < members b.faults)
+backup-sized f r turn all h lt there = by_found (backup_of turn all) refl there
+  where
+    by_found : (o : Option BackupView) → backup_of turn all ≡ o → IsSome o → IsSomeAnd o (λ b. r < members b.faults)
+    by_found None e k = absurd (cc k)
+    by_found (Some b) e k = subst (λ n. r < members n) (sym (Each-find (λ (x : BackupView). x.faults ≡ f) (λ x. is_takeover turn.id turn.view x.of) all b h e)) lt
+
+-- an answer leaves a takeover's attempt
+pub answered-keeps : (r : ℕ) (body : Body) (t : TakeoverOf) → (takeover_answered r body t).id ≡ t.id
+answered-keeps r body t = by_test t.closed
+  where
+    by_test : (b : Bool) → (cond b t (record t { state = state_answered r body t.state })).id ≡ t.id
+    by_test true = refl
+    by_test false = refl
+
+-- where nobody is found, a change changes nothing
+pub change-unfound : {X : Type 0} (p : X → Bool) (f : X → X) (xs : List X) → find p xs ≡ None → change p f xs ≡ xs
+change-unfound p f [] e = refl
+change-unfound p f (x ∷ xs) e = by_test (p x) (change-unfound p f xs) e
+  where
+    by_test : (b : Bool) → (find p xs ≡ None → change p f xs ≡ xs) → cond b (Some x) (find p xs) ≡ None → cond b (f x) x ∷ change p f xs ≡ x ∷ xs
+    by_test true more e = absurd (none-some x (sym e))
+    by_test false more e = ap (λ ys. x ∷ ys) (more e)
+
+if_not : {A : Type 0} (b : Bool) (x y : A) → b ≡ false → cond b x y ≡ y
+if_not true x y e = absurd (cc e)
+if_not false x y e = refl
+
+-- an answer that is not heard teaches nothing
+pub unheard-teaches : (round : Setting) (column : ColumnState) (msg : Msg) (body : Body) → goes_to_replica body ≡ false → is_heard round column msg ≡ false → by_message round column msg body ≡ []
+unheard-teaches round column msg (Voted vote) goes e = refl
+unheard-teaches round column msg AcceptedBody goes e = refl
+unheard-teaches round column msg (ToldBody told) goes e = if_not _ _ _ e
+unheard-teaches round column msg (MovedBody moved) goes e = if_not _ _ _ e
+unheard-teaches round column msg (ValidateBody mark) goes e = absurd (cc goes)
+unheard-teaches round column msg (Accept outcome) goes e = absurd (cc goes)
+unheard-teaches round column msg (Decide outcome) goes e = absurd (cc goes)
+unheard-teaches round column msg Ask goes e = absurd (cc goes)
+
+-- a view above 0 whose takeover is not there or not led hears nothing
+pub unheard-state : (round : Setting) (column : ColumnState) (msg : Msg) → (msg.view == 0) ≡ false → goes_to_replica msg.body ≡ false → (is_led round msg.epoch msg.view && is_some (takeover_of column msg.id msg.view)) ≡ false
+    → column ≡ heard_taken round msg column
+unheard-state round column msg above goes e = by_led (is_led round msg.epoch msg.view) (takeover_of column msg.id msg.view) refl refl e
+  where
+    to_takeover : answer_taken round msg column ≡ takeover_heard round msg column
+    to_takeover = if_not _ _ _ above
+
+    silent : column ≡ takeover_heard round msg column → is_heard round column msg ≡ false → column ≡ heard_taken round msg column
+    silent same unheard =
+        none-learned column column.learned
+        ∙ ap (λ (l : List Learning). record column { learned = column.learned ++ l }) (sym (unheard-teaches round column msg msg.body goes unheard))
+        ∙ ap (λ (after : ColumnState). record after { learned = column.learned ++ by_message round column msg msg.body }) (same ∙ sym to_takeover)
+
+    by_led : (b : Bool) (o : Option TakeoverOf) → is_led round msg.epoch msg.view ≡ b → takeover_of column msg.id msg.view ≡ o → (b && is_some o) ≡ false → column ≡ heard_taken round msg column
+    by_led false o led there k = silent (sym (if_not _ _ _ led)) (if_not _ _ _ above ∙ ap (λ b. b && passes (λ t. not t.closed) (takeover_of column msg.id msg.view)) led)
+    by_led true None led there k =
+        silent (sym (ap (λ b. cond b (change_takeover msg.id msg.view (takeover_answered msg.replica msg.body) column) column) led
+        ∙ ap (λ (all : List TakeoverOf). record column { takeovers = all }) (change-unfound (is_takeover msg.id msg.view) (takeover_answered msg.replica msg.body) column.takeovers there)))
+        (if_not _ _ _ above ∙ ap (λ b. b && passes (λ t. not t.closed) (takeover_of column msg.id msg.view)) led ∙ ap (passes (λ (t : TakeoverOf). not t.closed)) there)
+    by_led true (Some t) led there k = absurd (cc k)
+
+-- the attempt of a takeover that is there is known
+pub taker-known : (turn : Turn) (all : List BackupView) (attempts : List BegunView) → Each (λ b. IsSome (begun_of b.of.id attempts)) all → IsSome (backup_of turn all) → IsSome (begun_of turn.id attempts)
+taker-known turn all attempts h there = by_found (backup_of turn all) refl there
+  where
+    first-of : (a b : Bool) → (a && b) ≡ true → a ≡ true
+    first-of true b e = refl
+    first-of false b e = absurd (cc e)
+
+    by_found : (o : Option BackupView) → backup_of turn all ≡ o → IsSome o → IsSome (begun_of turn.id attempts)
+    by_found None e k = absurd (cc k)
+    by_found (Some b) e k =
+        let here = first-of (same_id b.of.id turn.id) (b.of.state.view == turn.view) (find-passes (λ (x : BackupView). is_takeover turn.id turn.view x.of) all b e) in
+        subst (λ i. IsSome (begun_of i attempts)) (same_id-tells b.of.id turn.id here)
+        (Each-find (λ (x : BackupView). IsSome (begun_of x.of.id attempts)) (λ x. is_takeover turn.id turn.view x.of) all b h e)

@@ -6,6 +6,9 @@ use Rattle.mk_txn.specs.declared.TxnId.{TxnId}
 use Rattle.mk_txn.specs.declared.Outcome.{Outcome}
 use Rattle.mk_txn.specs.Transactions.{Transaction}
 use Rattle.mk_msg.specs.declared.Msg.{Msg}
+use Rattle.mk_msg.specs.declared.Body.{Body}
+use Rattle.mk_msg.specs.declared.Body.TheVariants.{Told as ToldBody, Moved as MovedBody}
+use Rattle.mk_column.specs.Answers.{moved_outcome}
 use Rattle.mk_quorum.specs.Sizes.{members}
 use Rattle.mk_quorum.specs.Slots.{passes}
 use Rattle.mk_trim.specs.SettledAttempts.{SettledAttempts, is_settled as is_kept_settled}
@@ -21,7 +24,7 @@ use Rattle.mk_column.specs.ColumnState.{Setting, ColumnState, Learning, Way, new
 use Rattle.mk_column.specs.ColumnState.Way.{ByVotes, ByAccepts, ByPick, ByMoved, ByTelling, ByFinishing}
 use Rattle.mk_column.specs.Replicas.{Held}
 use Rattle.mk_column.specs.Conditions.{is_validate_of}
-use Rattle.mk_column.specs.Learnings.{is_decision_of}
+use Rattle.mk_column.specs.Learnings.{learning, is_decision_of}
 use Rattle.mk_column.specs.HeldByCode.{work_of}
 use Rattle.mk_column.specs.AttemptsByCode.{BegunView, begun_of, states_of}
 use Rattle.mk_column.specs.TakeoversByCode.{BackupView, takeovers_of}
@@ -46,6 +49,17 @@ way_of (Pick view) = ByPick view
 way_of (Moved epoch) = ByMoved epoch
 way_of Telling = ByTelling
 way_of Finishing = ByFinishing
+
+-- what an answer teaches, and how
+abbrev pub lesson_in : Body → Option (Outcome × KeptWay)
+lesson_in (ToldBody told) = option_map (λ outcome. (outcome, Telling)) told.last
+lesson_in (MovedBody moved) = option_map (λ outcome. (outcome, Moved moved.to)) (moved_outcome moved)
+lesson_in _ = None
+
+-- one learning where something is taught
+abbrev pub lesson_of : TxnId → Option (Outcome × KeptWay) → List Learning
+lesson_of id (Some lesson) = learning id (way_of lesson.1) lesson.0 ∷ []
+lesson_of id None = []
 
 -- what was learned
 abbrev pub learning_of_kept : Learned → Learning
@@ -128,3 +142,4 @@ pub record IsKept (f : ℕ) (kept : Kept) (ends : SettledAttempts) : Type 0 wher
   pub validates : (id : TxnId) → begun_of id kept.attempts ≡ None → list_any (is_validate_of id) kept.link ≡ false
   pub homes : Each (λ (begun : BegunView). IsSome (kept_client begun.state.id.client kept.clients)) kept.attempts
   pub work : WorkFits (members f) kept.attempts kept.replicas kept.work
+  pub takers : Each (λ (backup : BackupView). IsSome (begun_of backup.of.id kept.attempts)) kept.takeovers

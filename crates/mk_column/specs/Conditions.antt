@@ -22,6 +22,8 @@ use Rattle.mk_takeover.specs.declared.Pick.TheVariants.{Known, Learned as PickLe
 use Rattle.mk_takeover.specs.Picks.{pick}
 use Rattle.mk_merge.specs.declared.ReplicaView.{ReplicaView}
 use Rattle.mk_column.specs.declared.KeyCall.{KeyCall}
+use Rattle.mk_column.specs.declared.ColumnError.{ColumnError}
+use Rattle.mk_column.specs.declared.ColumnError.TheVariants.{NotEnabled, NoMemory}
 use Rattle.mk_column.specs.declared.Step.{Step}
 use Rattle.mk_column.specs.declared.Step.TheVariants.{Begin, Unread, Read, Stamp, Validate, Take, Key, Rule, Again, Takeover, Pick as PickStep, Stop}
 use Rattle.mk_column.specs.ColumnState.{Setting, ColumnState, AttemptState, ClientState, Work, client_of, attempt_of, takeover_of}
@@ -186,3 +188,8 @@ first_failing k (false ∷ tests) = Some k
 -- none where the step is enabled, and else the number of its first condition that fails
 abbrev pub blocked : Setting → ColumnState → Step → Option ℕ
 blocked round column step = first_failing 1 (conditions round column step)
+
+-- why a step is not done: its first condition that fails has this number, or there is none and no memory
+abbrev pub error_of : Option ℕ → ColumnError
+error_of (Some number) = NotEnabled number
+error_of None = NoMemory

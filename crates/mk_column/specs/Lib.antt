@@ -14,3 +14,4 @@ pub mod AttemptsByCode
 pub mod TakeoversByCode
 pub mod ClientsByCode
 pub mod ColumnByCode
+pub mod Growing

@@ -8,6 +8,7 @@ ghost use Rattle.mk_column.specs.Answers.{is_led as is_led_in};
 ghost use Rattle.mk_lists.specs.Among.{AllDistinct};
 ghost use Rattle.mk_column.specs.Replicas.{nothing_held};
 ghost use Rattle.mk_column.specs.ColumnByCode.{column_at_start};
+ghost use Rattle.mk_column.specs.Growing.{HasGrown};
 ghost use Rattle.mk_column.specs.Logs.{replica_reset, reading_ended};
 ghost use Rattle.mk_coord.specs.Rulings.{ruling as ruling_of};
 ghost use Rattle.mk_takeover.specs.Picks.{pick as pick_of};
@@ -106,7 +107,8 @@ impl Column {
     pub fn begin_round(&mut self, views: Vec<ReplicaView>)
         requires views { length views.items ≡ members self.old.setting.faults }
         requires idle { is_idle self.old.state.work ≡ true }
-        ensures { self.new ≡ record self.old { setting = record self.old.setting { views = views.items }; state = reading_ended self.old.state } }
+        ensures after { self.new ≡ record self.old { setting = record self.old.setting { views = views.items }; state = reading_ended self.old.state } }
+        ensures grown { HasGrown self.old self.new }
     {
         self.attempts.end_reading();
         self.clients.end_reading();
@@ -147,6 +149,7 @@ impl Column {
     pub fn take_log(&mut self) -> Vec<Step>
         ensures log { result.items ≡ self.old.log }
         ensures rest { self.new ≡ record self.old { log = [] } }
+        ensures grown { HasGrown self.old self.new }
     {
         let empty = Vec::new(*self.log.allocator());
         std::mem::replace(&mut self.log, empty)
@@ -156,7 +159,8 @@ impl Column {
     pub fn reset(&mut self, replica: u32)
         requires there { replica < members self.old.setting.faults }
         requires idle { is_idle self.old.state.work ≡ true }
-        ensures { self.new ≡ record self.old { state = replica_reset replica self.old.state } }
+        ensures after { self.new ≡ record self.old { state = replica_reset replica self.old.state } }
+        ensures grown { HasGrown self.old self.new }
     {
         self.replicas[replica as usize].reset();
     }
@@ -205,7 +209,7 @@ impl Column {
     }
 
     // The takeover of this attempt at this view, as it is kept.
-    fn backup(&self, id: TxnId, view: u32) -> Option<&Backup>
+    pub(crate) fn backup(&self, id: TxnId, view: u32) -> Option<&Backup>
         ensures { option_map (λ (backup : BackupView). backup.of) (option_copied result) ≡ takeover_of self.now.state id view }
     {
         self.takeovers.find(Turn { id, view })
@@ -276,7 +280,7 @@ impl Column {
     }
 
     // Whether the replica that leads the view serves the epoch.
-    fn is_led(&self, epoch: u32, view: u32) -> bool
+    pub(crate) fn is_led(&self, epoch: u32, view: u32) -> bool
         ensures { result ≡ is_led_in self.now.setting epoch view }
     {
         let leader = view % self.size.n();

@@ -46,12 +46,7 @@ impl Column {
     }
 
     // The own coordinator learns the outcome, where there is one.
-    fn teach_where(
-        &mut self,
-        id: TxnId,
-        outcome: Option<Outcome>,
-        way: Way,
-    ) -> Result<(), NoMemory>
+    fn teach_where(&mut self, id: TxnId, outcome: Option<Outcome>, way: Way) -> Result<(), NoMemory>
         requires there { IsSome (attempt_of self.old.state id) }
         requires way { is_finishing (way_of way) ≡ false }
         ensures ok { OnOk result (self.new ≡ record self.old { state = taught_in id (way_of way) outcome self.old.state }) }

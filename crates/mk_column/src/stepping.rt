@@ -26,7 +26,7 @@ use mk_txn::{NoMemory, Outcome, TxnId};
 
 impl Column {
     // The own coordinator stops for good.
-    fn stop(&mut self, id: TxnId)
+    pub(crate) fn stop(&mut self, id: TxnId)
         requires { blocked_by self.old.setting self.old.state (Stop id) ≡ None }
         ensures { self.new ≡ record self.old { state = column_after self.old.setting self.old.state (Stop id) } }
     {
@@ -144,6 +144,7 @@ impl Column {
 
     // A takeover begins, and asks all replicas.
     fn begin_takeover(&mut self, epoch: u32, turn: Turn) -> Result<(), NoMemory>
+        requires known { IsSome (attempt_of self.old.state turn.id) }
         requires none { takeover_of self.old.state turn.id turn.view ≡ None }
         requires view { 1 ≤ turn.view }
         ensures ok { OnOk result (self.new ≡ record self.old { state = send (to_all self.old.setting.faults epoch turn.id turn.view Ask) (record self.old.state { takeovers = self.old.state.takeovers ++ (backup_begun self.old.setting.faults turn.id turn.view).of ∷ [] }) }) }

@@ -1,15 +1,16 @@
-//! A message is taken by its replica.
-ghost use Rattle.std.specs.Prelude.{◌≡◌, ◌<◌, ◌≤◌, ◌++◌, true, OnOk, OnErr, is_some, vec_len, vec_capacity, slice_get};
+//! A message is taken.
+ghost use Rattle.std.specs.Prelude.{◌≡◌, ◌<◌, ◌≤◌, ◌++◌, true, None, OnOk, OnErr, is_some, vec_len, vec_capacity, slice_get};
 ghost use Rattle.mk_quorum.specs.Sizes.{members};
 ghost use Rattle.mk_record.specs.Entries.{entry_of};
-ghost use Rattle.mk_msg.specs.Links.{goes_to_replica};
+ghost use Rattle.mk_msg.specs.Links.{goes_to_replica as goes_to_replica_of};
 ghost use Rattle.mk_column.specs.ColumnState.{entries_at};
 ghost use Rattle.mk_column.specs.ColumnByCode.{finish_kept};
-ghost use Rattle.mk_column.specs.Conditions.{is_idle};
+ghost use Rattle.mk_column.specs.declared.Step.TheVariants.{Take};
+ghost use Rattle.mk_column.specs.Conditions.{is_idle, blocked as blocked_by};
 ghost use Rattle.mk_column.specs.HeldByCode.{sent_of};
 ghost use Rattle.mk_column.specs.Learnings.{txn_of, is_final as is_final_entry, is_finished_by as finishes_in, finished_by};
 ghost use Rattle.mk_column.specs.Replicas.{serves as serves_epoch};
-ghost use Rattle.mk_column.specs.Steps.{delivered};
+ghost use Rattle.mk_column.specs.Steps.{delivered, column_after};
 
 use crate::column::Column;
 use crate::conditions::serves;
@@ -74,11 +75,27 @@ impl Column {
         }
     }
 
+    // The message of this number is taken.
+    pub(crate) fn take(&mut self, number: u64) -> Result<(), NoMemory>
+        requires { blocked_by self.old.setting self.old.state (Take number) ≡ None }
+        ensures ok { OnOk result (self.new ≡ record self.old { state = column_after self.old.setting self.old.state (Take number) }) }
+        ensures err { OnErr result (self.new ≡ self.old) }
+    {
+        let msg = *self.link.get(number).unwrap();
+        if goes_to_replica(&msg.body) {
+            self.deliver(&msg)
+        } else if msg.view == 0 {
+            self.answer_own(&msg)
+        } else {
+            self.answer_takeover(&msg)
+        }
+    }
+
     // A message is taken by its replica, which may answer, begin key calls and finish.
     pub(crate) fn deliver(&mut self, msg: &Msg) -> Result<(), NoMemory>
         requires replica { msg.now.replica < members self.old.setting.faults }
         requires idle { is_idle self.old.state.work ≡ true }
-        requires goes { goes_to_replica msg.now.body ≡ true }
+        requires goes { goes_to_replica_of msg.now.body ≡ true }
         ensures ok { OnOk result (self.new ≡ record self.old { state = delivered self.old.setting msg.now self.old.state }) }
         ensures err { OnErr result (self.new ≡ self.old) }
     {
@@ -97,6 +114,16 @@ impl Column {
         send_answer(&mut self.link, msg, reaction.answer);
         learn_finish(&mut self.learned, msg.id, finished);
         Ok(())
+    }
+}
+
+// Whether a replica takes it.
+fn goes_to_replica(body: &Body) -> bool
+    ensures { result ≡ goes_to_replica_of body.now }
+{
+    match body {
+        Body::Validate { .. } | Body::Accept(_) | Body::Decide(_) | Body::Ask => true,
+        Body::Voted(_) | Body::Accepted | Body::Told(_) | Body::Moved(_) => false,
     }
 }
 

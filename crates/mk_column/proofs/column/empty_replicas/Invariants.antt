@@ -5,4 +5,4 @@ use Rattle.mk_column.proofs.column.empty_replicas.Given as goal
 
 -- so many replicas so far
 abbrev pub invariant-loop-replica : goal.invariant-loop-replica
-invariant-loop-replica l = l.replicas.items ≡ replicate l.replica nothing_held
+invariant-loop-replica l = l.replicas.items ≡ replicate l._replica nothing_held

@@ -1,7 +1,9 @@
-use Rattle.std.proofs.Common.{◌≡◌, None, ◌++◌, refl, sym, ap, ◌∙◌}
+use Rattle.std.proofs.Common.{◌≡◌, None, ◌++◌, IsSome, refl, sym, ap, subst, ◌∙◌}
 use Rattle.mk_msg.specs.declared.Body.TheVariants.{Ask}
 use Rattle.mk_column.specs.ColumnState.{to_all}
 use Rattle.mk_column.specs.TakeoversByCode.{backup_of, backup_begun, turn_of}
+use Rattle.mk_column.specs.AttemptsByCode.{begun_of}
+use Rattle.mk_column.proofs.StepLaws.{begun-there}
 use Rattle.mk_column.proofs.KeptSteps.{IsKept-takes_over, IsKept-tells}
 use Rattle.mk_column.proofs.TakeoverLaws.{backup-none}
 use Rattle.mk_column.proofs.column.Column.begin_takeover.Goals as goal
@@ -13,6 +15,8 @@ push-requires c =
 
 pub invariant_of-self-2 : goal.invariant_of-self-2
 invariant_of-self-2 c =
+    let there : IsSome (begun_of c.args.turn.id c.self.inside.attempts) = begun-there c.args.turn.id c.self.inside.attempts c.args.self.now.state (ap (λ column. column.state.attempts) (sym c.self.view_is)) c.requires.known in
+    let known : IsSome (begun_of c.begin.result.of.id c.self.inside.attempts) = subst (λ b. IsSome (begun_of b.of.id c.self.inside.attempts)) (sym c.begin.ensures) there in
     let msgs = to_all c.self.inside.size c.args.epoch c.args.turn.id c.args.turn.view Ask in
     IsKept-tells c.self.inside.size c.args.epoch c.args.turn.id c.args.turn.view Ask _ _ _ (c.send_to_all.ensures ∙ ap (λ all. all ++ msgs) c.reserve.ensures.same) (λ e. cc e)
-    (IsKept-takes_over c.self.inside.size c.begin.result _ _ _ c.in_ok-push.ensures.ok (ap (λ b. b.faults) c.begin.ensures) c.self.invariant)
+    (IsKept-takes_over c.self.inside.size c.begin.result _ _ _ c.in_ok-push.ensures.ok (ap (λ b. b.faults) c.begin.ensures) known c.self.invariant)

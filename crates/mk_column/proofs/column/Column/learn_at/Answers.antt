@@ -29,7 +29,7 @@ invariant_of-self-2 c =
     let msgs = to_all c.self.inside.size c.args.epoch id c.args.turn.view (Decide c.args.outcome) in
     let pushed : c.push.new.self.items ≡ c.self.inside.learned.items ++ record { id = id; outcome = c.args.outcome; way = c.args.way } ∷ [] = search rules in
     let more : map learning_of_kept c.push.new.self.items ≡ map learning_of_kept c.self.inside.learned.items ++ learning id (way_of c.args.way) c.args.outcome ∷ [] = ap (map learning_of_kept) pushed ∙ map-append learning_of_kept c.self.inside.learned.items _ in
-    let closed = IsKept-takeover_changed _ c.args.turn closing _ _ _ c.close.ensures c.self.invariant in
+    let closed = IsKept-takeover_changed _ c.args.turn closing _ _ _ (λ t. refl) c.close.ensures c.self.invariant in
     let decided = IsKept-decides _ id (way_of c.args.way) c.args.outcome _ _ c.decide.new.self c.push.new.self.items c.decide.ensures more c.requires.way there closed in
     IsKept-tells c.self.inside.size c.args.epoch id c.args.turn.view (Decide c.args.outcome) _ _ _ (c.send_to_all.ensures ∙ ap (λ all. all ++ msgs) c.reserve.ensures.same) (λ e. cc e) decided
 

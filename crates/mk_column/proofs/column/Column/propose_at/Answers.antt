@@ -1,4 +1,4 @@
-use Rattle.std.proofs.Common.{◌≡◌, sym, ap, subst, ◌∙◌}
+use Rattle.std.proofs.Common.{◌≡◌, refl, sym, ap, subst, ◌∙◌}
 use Rattle.std.specs.Prelude.{IsSomeAnd}
 use Rattle.mk_takeover.specs.Picks.{pick}
 use Rattle.mk_takeover.specs.declared.Pick.TheVariants.{Propose}
@@ -17,7 +17,7 @@ propose-requires c =
     (subst (λ (column : ColumnView). IsSomeAnd (takeover_of column.state c.args.turn.id c.args.turn.view) (λ (t : TakeoverOf). pick column.setting.faults t.state ≡ Propose c.args.outcome)) (sym c.self.view_is) c.requires)
 
 pub invariant_of-self : goal.invariant_of-self
-invariant_of-self c = IsKept-takeover_changed _ c.args.turn (takeover_proposing c.args.outcome) _ _ _ c.propose.ensures c.self.invariant
+invariant_of-self c = IsKept-takeover_changed _ c.args.turn (takeover_proposing c.args.outcome) _ _ _ (λ t. refl) c.propose.ensures c.self.invariant
 
 pub returns : goal.returns
 returns c =
