@@ -27,10 +27,10 @@ mod taking;
 mod work;
 
 pub use column::Column;
-pub use outlet::{NoOutlet, Outlet};
 use mk_cell::{Act, Answer};
 pub use mk_merge::{Phase, ReplicaView};
 use mk_txn::{NoMemory, Outcome, ReadItem, Txn, TxnId, WriteItem};
+pub use outlet::{NoOutlet, Outlet};
 use std::alloc::Global;
 use std::marker::Model;
 
