@@ -24,53 +24,68 @@ nows-push (x ∷ txns) t = ap (λ ts. x.now ∷ ts) (nows-push txns t)
 -- ---- those that pass a test
 
 -- with those that are left it comes to all that pass
+abbrev pub ComesToPassing : (Transaction → Bool) → List (Bor Transaction) → ℕ → List Transaction → Type 0
+ComesToPassing p all i found = found ++ filter p (nows (drop i all)) ≡ filter p (nows all)
+
+pub passing-add : (p : Transaction → Bool) (all : List (Bor Transaction)) (i : ℕ) (t : Bor Transaction) (old new : List Transaction) → i < length all → t ≡ get_or all i t → p t.now ≡ true → new ≡ old ++ t.now ∷ []
+    → ComesToPassing p all i old → ComesToPassing p all (i + 1) new
+passing-add p all i t old new within is pass pushed h =
+    let more = filter p (nows (drop (i + 1) all)) in
+    ap (λ found. found ++ more) pushed
+    ∙ append_assoc old (t.now ∷ []) more
+    ∙ ap (λ b. old ++ (if b then t.now ∷ more else more)) (sym pass)
+    ∙ ap (λ left. old ++ filter p (nows left)) (sym (drop-at all i t within is))
+    ∙ h
+
+pub passing-skip : (p : Transaction → Bool) (all : List (Bor Transaction)) (i : ℕ) (t : Bor Transaction) (found : List Transaction) → i < length all → t ≡ get_or all i t → p t.now ≡ false
+    → ComesToPassing p all i found → ComesToPassing p all (i + 1) found
+passing-skip p all i t found within is miss h =
+    let more = filter p (nows (drop (i + 1) all)) in
+    ap (λ b. found ++ (if b then t.now ∷ more else more)) (sym miss)
+    ∙ ap (λ left. found ++ filter p (nows left)) (sym (drop-at all i t within is))
+    ∙ h
+
+pub passing-ends : (p : Transaction → Bool) (all : List (Bor Transaction)) (i : ℕ) (found : List Transaction) → length all ≤ i → ComesToPassing p all i found → found ≡ filter p (nows all)
+passing-ends p all i found past h = sym (append-nil found) ∙ ap (λ left. found ++ filter p (nows left)) (sym (drop_all i all past)) ∙ h
+
+-- the same where those that were found are borrowed
 abbrev pub ComesToFiltered : (Transaction → Bool) → List (Bor Transaction) → ℕ → List (Bor Transaction) → Type 0
-ComesToFiltered p all i found = nows found ++ filter p (nows (drop i all)) ≡ filter p (nows all)
+ComesToFiltered p all i found = ComesToPassing p all i (nows found)
 
 pub filtered-add : (p : Transaction → Bool) (all : List (Bor Transaction)) (i : ℕ) (t : Bor Transaction) (old new : List (Bor Transaction)) → i < length all → t ≡ get_or all i t → p t.now ≡ true → new ≡ old ++ t ∷ []
     → ComesToFiltered p all i old → ComesToFiltered p all (i + 1) new
-filtered-add p all i t old new within is pass pushed h =
-    let more = filter p (nows (drop (i + 1) all)) in
-    ap (λ found. found ++ more) (ap nows pushed ∙ nows-push old t)
-    ∙ append_assoc (nows old) (t.now ∷ []) more
-    ∙ ap (λ b. nows old ++ (if b then t.now ∷ more else more)) (sym pass)
-    ∙ ap (λ left. nows old ++ filter p (nows left)) (sym (drop-at all i t within is))
-    ∙ h
+filtered-add p all i t old new within is pass pushed h = passing-add p all i t (nows old) (nows new) within is pass (ap nows pushed ∙ nows-push old t) h
 
 pub filtered-skip : (p : Transaction → Bool) (all : List (Bor Transaction)) (i : ℕ) (t : Bor Transaction) (found : List (Bor Transaction)) → i < length all → t ≡ get_or all i t → p t.now ≡ false
     → ComesToFiltered p all i found → ComesToFiltered p all (i + 1) found
-filtered-skip p all i t found within is miss h =
-    let more = filter p (nows (drop (i + 1) all)) in
-    ap (λ b. nows found ++ (if b then t.now ∷ more else more)) (sym miss)
-    ∙ ap (λ left. nows found ++ filter p (nows left)) (sym (drop-at all i t within is))
-    ∙ h
+filtered-skip p all i t found within is miss h = passing-skip p all i t (nows found) within is miss h
 
 pub filtered-ends : (p : Transaction → Bool) (all : List (Bor Transaction)) (i : ℕ) (found : List (Bor Transaction)) → length all ≤ i → ComesToFiltered p all i found → nows found ≡ filter p (nows all)
-filtered-ends p all i found past h = sym (append-nil (nows found)) ∙ ap (λ left. nows found ++ filter p (nows left)) (sym (drop_all i all past)) ∙ h
+filtered-ends p all i found past h = passing-ends p all i (nows found) past h
 
 -- ---- candidates in turn
 
 -- with those that are left it comes to all that are taken
-abbrev pub ComesToTaken : List (Bor Transaction) → ℕ → List (Bor Transaction) → List (Bor Transaction) → Type 0
-ComesToTaken all i begun commits = taken (nows commits) (nows (drop i all)) ≡ taken (nows begun) (nows all)
+abbrev pub ComesToTaken : List (Bor Transaction) → ℕ → List Transaction → List Transaction → Type 0
+ComesToTaken all i begun commits = taken commits (nows (drop i all)) ≡ taken begun (nows all)
 
-pub taken-add : (all : List (Bor Transaction)) (i : ℕ) (t : Bor Transaction) (begun old new : List (Bor Transaction)) → i < length all → t ≡ get_or all i t → list_any (conflict t.now) (nows old) ≡ false → new ≡ old ++ t ∷ []
+pub taken-add : (all : List (Bor Transaction)) (i : ℕ) (t : Bor Transaction) (begun old new : List Transaction) → i < length all → t ≡ get_or all i t → list_any (conflict t.now) old ≡ false → new ≡ old ++ t.now ∷ []
     → ComesToTaken all i begun old → ComesToTaken all (i + 1) begun new
 taken-add all i t begun old new within is free pushed h =
-    ap (λ commits. taken commits (nows (drop (i + 1) all))) (ap nows pushed ∙ nows-push old t)
-    ∙ ap (λ b. taken (if b then nows old else nows old ++ t.now ∷ []) (nows (drop (i + 1) all))) (sym free)
-    ∙ ap (λ left. taken (nows old) (nows left)) (sym (drop-at all i t within is))
+    ap (λ commits. taken commits (nows (drop (i + 1) all))) pushed
+    ∙ ap (λ b. taken (if b then old else old ++ t.now ∷ []) (nows (drop (i + 1) all))) (sym free)
+    ∙ ap (λ left. taken old (nows left)) (sym (drop-at all i t within is))
     ∙ h
 
-pub taken-skip : (all : List (Bor Transaction)) (i : ℕ) (t : Bor Transaction) (begun commits : List (Bor Transaction)) → i < length all → t ≡ get_or all i t → list_any (conflict t.now) (nows commits) ≡ true
+pub taken-skip : (all : List (Bor Transaction)) (i : ℕ) (t : Bor Transaction) (begun commits : List Transaction) → i < length all → t ≡ get_or all i t → list_any (conflict t.now) commits ≡ true
     → ComesToTaken all i begun commits → ComesToTaken all (i + 1) begun commits
 taken-skip all i t begun commits within is clash h =
-    ap (λ b. taken (if b then nows commits else nows commits ++ t.now ∷ []) (nows (drop (i + 1) all))) (sym clash)
-    ∙ ap (λ left. taken (nows commits) (nows left)) (sym (drop-at all i t within is))
+    ap (λ b. taken (if b then commits else commits ++ t.now ∷ []) (nows (drop (i + 1) all))) (sym clash)
+    ∙ ap (λ left. taken commits (nows left)) (sym (drop-at all i t within is))
     ∙ h
 
-pub taken-ends : (all : List (Bor Transaction)) (i : ℕ) (begun commits : List (Bor Transaction)) → length all ≤ i → ComesToTaken all i begun commits → nows commits ≡ taken (nows begun) (nows all)
-taken-ends all i begun commits past h = ap (λ left. taken (nows commits) (nows left)) (sym (drop_all i all past)) ∙ h
+pub taken-ends : (all : List (Bor Transaction)) (i : ℕ) (begun commits : List Transaction) → length all ≤ i → ComesToTaken all i begun commits → commits ≡ taken begun (nows all)
+taken-ends all i begun commits past h = ap (λ left. taken commits (nows left)) (sym (drop_all i all past)) ∙ h
 
 -- ---- every transaction with its fate
 

@@ -18,4 +18,5 @@ pub mod AddingLaws
 pub mod StandLaws
 pub mod MergedLaws
 pub mod BaseWith
+pub mod ClashingLaws
 pub mod Examples

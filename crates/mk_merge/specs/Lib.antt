@@ -7,3 +7,4 @@ pub mod Merging
 pub mod Keepings
 pub mod Adding
 pub mod Handing
+pub mod Clashing

@@ -2,6 +2,7 @@
 #![tactic(auto)]
 
 mod choosing;
+mod clashing;
 mod handing;
 mod joining;
 mod keeping;

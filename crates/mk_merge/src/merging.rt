@@ -1,10 +1,8 @@
 //! What a merge adds to the base of the promises that count.
-ghost use Rattle.std.specs.Prelude.{◌≡◌, map, filter, is_none, nat_le, ◌&&◌, IfOk, OnOk};
-ghost use Rattle.std.specs.List.{list_any};
-ghost use Rattle.mk_txn.specs.Clashes.{conflict};
+ghost use Rattle.std.specs.Prelude.{◌≡◌, map, filter, is_none, nat_le, ◌&&◌, IfOk};
 ghost use Rattle.mk_txn.specs.MarkMaps.{IsMarkMap};
 ghost use Rattle.mk_txn.specs.Outcomes.{is_commit};
-ghost use Rattle.mk_txn.specs.Transactions.{AreCoherent, same_id as is_same_id};
+ghost use Rattle.mk_txn.specs.Transactions.{AreCoherent};
 ghost use Rattle.mk_quorum.specs.Sizes.{hint_of};
 ghost use Rattle.mk_quorum.specs.Slots.{passes};
 ghost use Rattle.mk_merge.specs.Bases.{fated as is_fated};
@@ -12,13 +10,14 @@ ghost use Rattle.mk_merge.specs.Merging.{ok_reports as count_of_oks, taken, fate
 ghost use Rattle.mk_merge.specs.Adding.{entered_txns, entered_fate as is_entered_fate, additions};
 ghost use Rattle.mk_merge.specs.Keepings.{handed_in, raised_marks};
 
+use crate::clashing::Commits;
 use crate::handing::{Handed, hand_in};
 use crate::ordering::{in_stamp_order, new_txns};
 use crate::reporting::{entered_fate, ok_reports};
 use crate::{Addition, Fated, Promise};
 use mk_quorum::Size;
 use mk_trim::Kept;
-use mk_txn::{Cause, Marks, NoMemory, Outcome, Txn, TxnId, conflicts, same_id};
+use mk_txn::{Cause, Marks, NoMemory, Outcome, Txn, TxnId};
 use std::alloc::Global;
 
 // Whether the outcome that entries settle is a commit.
@@ -41,13 +40,13 @@ fn entered_commits<'a>(
     promises: &[Handed],
     size: Size,
     txns: &[&'a Txn],
-) -> Result<Vec<&'a Txn>, NoMemory>
-    ensures { IfOk result (λ found. map (λ t. t.now) found.items ≡ filter (λ txn. passes is_commit (is_entered_fate size promises.now txn.id)) (map (λ t. t.now) txns.now)) }
+) -> Result<Commits<'a>, NoMemory>
+    ensures { IfOk result (λ found. found ≡ filter (λ txn. passes is_commit (is_entered_fate size promises.now txn.id)) (map (λ t. t.now) txns.now)) }
 {
-    let mut found = Vec::new(alloc);
+    let mut found = Commits::new(alloc);
     for txn in txns {
         if is_entered_commit(promises, size, txn.id()) {
-            found.push(*txn)?;
+            found = found.with(alloc, *txn)?;
         }
     }
     Ok(found)
@@ -71,50 +70,31 @@ fn candidates<'a>(
     Ok(found)
 }
 
-// Whether the transaction conflicts with a commit.
-fn conflicts_with(txn: &Txn, commits: &[&Txn]) -> bool
-    ensures { result ≡ list_any (conflict txn.now) (map (λ t. t.now) commits.now) }
-{
-    for commit in commits {
-        if conflicts(txn, commit) {
-            return true;
-        }
-    }
-    false
-}
-
 // Each candidate in turn commits, unless it conflicts with a commit taken so far.
-fn take<'a>(commits: &mut Vec<&'a Txn>, candidates: &[&'a Txn]) -> Result<(), NoMemory>
-    ensures { OnOk result (map (λ t. t.now) commits.new.items ≡ taken (map (λ t. t.now) commits.old.items) (map (λ t. t.now) candidates.now)) }
+fn take<'a>(
+    alloc: Global,
+    entered: Commits<'a>,
+    candidates: &[&'a Txn],
+) -> Result<Commits<'a>, NoMemory>
+    ensures { IfOk result (λ commits. commits ≡ taken entered.entry (map (λ t. t.now) candidates.now)) }
 {
+    let mut commits = entered;
     for txn in candidates {
-        if !conflicts_with(txn, commits.as_slice()) {
-            commits.push(*txn)?;
+        if !commits.conflicts(txn) {
+            commits = commits.with(alloc, *txn)?;
         }
     }
-    Ok(())
-}
-
-// Whether the attempt is among the commits.
-fn is_among(id: TxnId, commits: &[&Txn]) -> bool
-    ensures { result ≡ list_any (λ c. is_same_id c.id id) (map (λ t. t.now) commits.now) }
-{
-    for commit in commits {
-        if same_id(commit.id(), id) {
-            return true;
-        }
-    }
-    false
+    Ok(commits)
 }
 
 // The outcome that entries settle, else a commit where it was taken, else an abort by this epoch.
-fn fate(epoch: u32, txn: &Txn, commits: &[&Txn], settled: Option<Outcome>) -> Outcome
-    ensures { result ≡ fate_by epoch txn.now (map (λ t. t.now) commits.now) settled }
+fn fate(epoch: u32, txn: &Txn, commits: &Commits, settled: Option<Outcome>) -> Outcome
+    ensures { result ≡ fate_by epoch txn.now commits.now settled }
 {
     match settled {
         Some(outcome) => outcome,
         None => {
-            if is_among(txn.id(), commits) {
+            if commits.has(txn.id()) {
                 Outcome::Commit
             } else {
                 Outcome::Abort(Cause::Epoch(epoch))
@@ -130,9 +110,9 @@ fn fates(
     size: Size,
     epoch: u32,
     txns: &[&Txn],
-    commits: &[&Txn],
+    commits: &Commits,
 ) -> Result<Vec<Fated>, NoMemory>
-    ensures { IfOk result (λ list. list.items ≡ map (λ txn. is_fated txn (fate_by epoch txn (map (λ t. t.now) commits.now) (is_entered_fate size promises.now txn.id))) (map (λ t. t.now) txns.now)) }
+    ensures { IfOk result (λ list. list.items ≡ map (λ txn. is_fated txn (fate_by epoch txn commits.now (is_entered_fate size promises.now txn.id))) (map (λ t. t.now) txns.now)) }
 {
     let mut list = Vec::new(alloc);
     for txn in txns {
@@ -157,18 +137,11 @@ fn new_fates(
     ensures { IfOk result (λ list. list.items ≡ additions size epoch kept.now promises.now) }
 {
     let txns = new_txns(alloc, kept, promises)?;
-    let mut commits = entered_commits(alloc, promises, size, txns.as_slice())?;
+    let entered = entered_commits(alloc, promises, size, txns.as_slice())?;
     let waiting = candidates(alloc, promises, size, txns.as_slice())?;
     let waiting = in_stamp_order(alloc, waiting.as_slice())?;
-    take(&mut commits, waiting.as_slice())?;
-    fates(
-        alloc,
-        promises,
-        size,
-        epoch,
-        txns.as_slice(),
-        commits.as_slice(),
-    )
+    let commits = take(alloc, entered, waiting.as_slice())?;
+    fates(alloc, promises, size, epoch, txns.as_slice(), &commits)
 }
 
 // Of each client the greatest mark.

@@ -1,4 +1,3 @@
-use Rattle.std.proofs.Common.{map}
 use Rattle.mk_merge.specs.Bases.{fated}
 use Rattle.mk_merge.specs.Merging.{fate_by}
 use Rattle.mk_merge.specs.Adding.{entered_fate}
@@ -6,4 +5,4 @@ use Rattle.mk_merge.proofs.FateLaws.{ComesToFates}
 use Rattle.mk_merge.proofs.merging.fates.Given as goal
 
 abbrev pub invariant-loop-txn : goal.invariant-loop-txn
-invariant-loop-txn l = ComesToFates (λ txn. fated txn (fate_by l.epoch txn (map (λ t. t.now) l.commits) (entered_fate l.size l.promises txn.id))) l.txns l.txn-index l.list.items
+invariant-loop-txn l = ComesToFates (λ txn. fated txn (fate_by l.epoch txn l.commits (entered_fate l.size l.promises txn.id))) l.txns l.txn-index l.list.items

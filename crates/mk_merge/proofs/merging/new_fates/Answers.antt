@@ -26,10 +26,10 @@ returns c =
     let second = ap nows c.as_slice-2.ensures.value ∙ c.in_ok-txns.ensures in
     let last = ap nows c.as_slice-5.ensures.value ∙ c.in_ok-txns.ensures in
     ok-each c.fates.result _ _ (λ list is.
-    additions-are c.args.size c.args.epoch c.args.kept.now ps (nows c.as_slice-5.result.now) (nows c.in_ok-commits.commits.items) (nows c.as_slice-3.result.now) (nows c.as_slice-4.result.now) (nows c.as_slice-6.result.now) list.items
+    additions-are c.args.size c.args.epoch c.args.kept.now ps (nows c.as_slice-5.result.now) c.in_ok-entered.entered (nows c.as_slice-3.result.now) (nows c.as_slice-4.result.now) c.in_ok-commits.commits list.items
     last
-    (c.in_ok-commits.ensures ∙ ap (filter _) (first ∙ sym last))
+    (c.in_ok-entered.ensures ∙ ap (filter _) (first ∙ sym last))
     (ap nows c.as_slice-3.ensures.value ∙ c.in_ok-waiting.ensures ∙ ap (filter _) (second ∙ sym last))
     (ap nows c.as_slice-4.ensures.value ∙ c.in_ok-waiting-2.ensures)
-    (ap nows c.as_slice-6.ensures.value ∙ c.in_ok-take.ensures)
+    c.in_ok-commits.ensures
     is) c.fates.ensures
