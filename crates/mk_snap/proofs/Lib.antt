@@ -1,3 +1,4 @@
 pub mod LeftsLaws
 pub mod SnapLaws
 pub mod Asked
+pub mod TablesLaws

@@ -1,3 +1,4 @@
 -- Snapshots of bases.
 pub mod Snapshots
 pub mod Rows
+pub mod Tables
