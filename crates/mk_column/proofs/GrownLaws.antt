@@ -36,6 +36,7 @@ calm-grown before after number keys calm =
     kept : (o : Option AttemptState) (attempt : AttemptState) → IsSomeAnd o (λ later. later.txn ≡ attempt.txn) → IsSomeAnd o (λ later. (txn : Transaction) → attempt.txn ≡ Some txn → later.txn ≡ Some txn)
     kept None attempt h = absurd h
     kept (Some later) attempt h = λ txn e. h ∙ e
+
     no_stamp : (id : TxnId) (txn : Transaction) (o p : Option AttemptState) → attempt_of before.state id ≡ o → attempt_of after.state id ≡ p → option_and_then (λ (a : AttemptState). a.txn) p ≡ Some txn → option_and_then (λ (a : AttemptState). a.txn) o ≡ None → ⊥
     no_stamp id txn o None was is now then = none-some txn now
     no_stamp id txn None (Some b) was is now then = none-some txn (sym (calm.fresh id b is was) ∙ now)

@@ -24,13 +24,15 @@ mod stamping;
 mod stepping;
 mod takeovers;
 mod taking;
+#[cfg(test)]
+mod tests;
 mod work;
 
 pub use column::Column;
-pub use outlet::{NoOutlet, Outlet};
 use mk_cell::{Act, Answer};
 pub use mk_merge::{Phase, ReplicaView};
 use mk_txn::{NoMemory, Outcome, ReadItem, Txn, TxnId, WriteItem};
+pub use outlet::{NoOutlet, Outlet};
 use std::alloc::Global;
 use std::marker::Model;
 
