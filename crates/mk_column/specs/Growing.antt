@@ -1,5 +1,5 @@
 -- What of a column stays while steps are done and rounds begin.
-use Rattle.std.specs.Prelude.{◌≡◌, ℕ, List, map, Option, Some, None, IsSomeAnd}
+use Rattle.std.specs.Prelude.{◌≡◌, ◌==◌, if◌then◌else◌, ℕ, List, map, Option, Some, None, IsSomeAnd}
 use Rattle.mk_txn.specs.declared.TxnId.{TxnId}
 use Rattle.mk_txn.specs.declared.Stamp.{Stamp}
 use Rattle.mk_txn.specs.declared.Outcome.{Outcome}
@@ -11,11 +11,10 @@ use Rattle.mk_column.specs.ColumnByCode.{ColumnView}
 
 -- the last stamp of a client, 0.0 before its first
 abbrev pub last_stamp : ClientState → Stamp
-last_stamp client = last_at client.last_time client.number
-  where
-    last_at : ℕ → ℕ → Stamp
-    last_at 0 number = record { time = 0; client = 0 }
-    last_at time number = record { time = time; client = number }
+last_stamp client =
+    if client.last_time == 0
+    then record { time = 0; client = 0 }
+    else record { time = client.last_time; client = client.number }
 
 -- the numbers of a column's clients
 abbrev pub client_numbers : ColumnState → List ℕ
