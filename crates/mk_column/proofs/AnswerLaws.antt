@@ -21,7 +21,7 @@ use Rattle.mk_quorum.specs.Sizes.{members}
 use Rattle.mk_trim.specs.SettledAttempts.{SettledAttempts}
 use Rattle.mk_column.specs.declared.work.Work.{Work as KeptWork}
 use Rattle.mk_column.specs.declared.work.Work.TheVariants.{Idle as KeptIdle, Fetching as KeptFetching, Validating as KeptValidating}
-use Rattle.mk_column.specs.ColumnState.{Setting, ColumnState, AttemptState, Learning, is_attempt, entries_at}
+use Rattle.mk_column.specs.ColumnState.{Setting, AttemptState, Learning, is_attempt, entries_at}
 use Rattle.mk_column.specs.ColumnState.Work.{Fetching}
 use Rattle.mk_column.specs.declared.Step.TheVariants.{Read}
 use Rattle.mk_column.specs.Replicas.{Held}

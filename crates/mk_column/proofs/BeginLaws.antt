@@ -1,7 +1,6 @@
 -- What a column keeps when an attempt begins.
-use Rattle.std.proofs.Common.{◌≡◌, ◌<◌, ◌≤◌, ◌+◌, ◌^◌, ℕ, zero, suc, get_or, max, Bool, true, false, cond, refl, sym, subst, ap, ◌∙◌, List, [], ◌∷◌, ◌++◌, Option, Some, None, ◌||◌, ◌&&◌, ◌==◌, arith, inl, inr, ◌⊎◌}
-use Rattle.std.specs.Prelude.{map, find, option_map, slice_get, option_copied, Result, Ok, Err, OnOk, IsSome, IsSomeAnd, not, nat_le}
-use Rattle.std.specs.List.{list_any}
+use Rattle.std.proofs.Common.{◌≡◌, ◌<◌, ◌≤◌, ◌+◌, ℕ, zero, suc, get_or, Bool, true, false, cond, refl, sym, subst, ap, ◌∙◌, List, [], ◌∷◌, ◌++◌, Option, Some, None, ◌||◌, ◌&&◌, ◌==◌, arith}
+use Rattle.std.specs.Prelude.{map, option_map, slice_get, option_copied, Result, Ok, Err, OnOk, IsSome, IsSomeAnd, not, nat_le}
 use Rattle.std.specs.Option.{option_or}
 use Rattle.std.specs.Borrow.{Bor}
 use Rattle.std.specs.Result.{is_err}
@@ -9,29 +8,28 @@ use Rattle.std.proofs.lemmas.List.{append-nil, map-append}
 use Rattle.std.proofs.lemmas.List.Folds.{find-append}
 use Rattle.std.proofs.lemmas.Bool.{false≢true}
 use Rattle.std.proofs.lemmas.Bool.Decides.{nat_tests}
-use Rattle.std.proofs.lemmas.Option.{none-some, same_Some}
+use Rattle.std.proofs.lemmas.Option.{none-some}
 use Rattle.mk_lists.specs.Among.{Each, Each-append, Each-weaker}
 use Rattle.mk_column.specs.TakeoversByCode.{BackupView}
-use Rattle.mk_lists.specs.Changed.{change, Each-change}
+use Rattle.mk_lists.specs.Changed.{change}
 use Rattle.mk_txn.specs.declared.TxnId.{TxnId}
-use Rattle.mk_txn.specs.Transactions.{same_id, Transaction}
-use Rattle.mk_txn.proofs.IdOrder.{same_id-tells, same_id-itself}
+use Rattle.mk_txn.specs.Transactions.{same_id}
+use Rattle.mk_txn.proofs.IdOrder.{same_id-tells}
 use Rattle.mk_quorum.specs.Slots.{passes}
 use Rattle.mk_trim.specs.SettledAttempts.{SettledAttempts, AlsoSettles, is_settled as is_kept_settled}
 use Rattle.mk_quorum.specs.Sizes.{members}
-use Rattle.mk_msg.specs.declared.Msg.{Msg}
 use Rattle.mk_column.specs.declared.clients.Client.{Client}
 use Rattle.mk_column.specs.declared.work.Work.{Work as KeptWork}
 use Rattle.mk_column.specs.declared.work.Work.TheVariants.{Idle as KeptIdle, Fetching as KeptFetching, Validating as KeptValidating, Finishing as KeptFinishing}
 use Rattle.mk_column.specs.ClientsByCode.{client_state, client_states, kept_client, change_kept, client_begun, next_of}
-use Rattle.mk_column.specs.ColumnState.{Setting, ColumnState, ClientState, Learning, is_settled, client_of, change_client, is_client}
+use Rattle.mk_column.specs.ColumnState.{Setting, ColumnState, ClientState, is_settled, client_of, is_client}
 use Rattle.mk_column.specs.Replicas.{Held}
 use Rattle.mk_column.specs.Conditions.{may_begin, has_seq_left, serves_from, heard_by}
 use Rattle.mk_merge.specs.declared.ReplicaView.{ReplicaView}
 use Rattle.mk_column.specs.declared.Step.TheVariants.{Begin, Unread}
-use Rattle.mk_column.specs.Steps.{begun, next_id, new_attempt, unread_attempt, epoch_of, on_some, beginning, left_unread, stepped, column_after}
-use Rattle.mk_column.specs.AttemptsByCode.{BegunView, as_begun, is_begun, begun_of, states_of}
-use Rattle.mk_column.specs.ColumnByCode.{Kept, IsKept, AttemptFits, ClientFits, WorkFits, has_reading, first_decision, learning_of_kept, column_of}
+use Rattle.mk_column.specs.Steps.{begun, new_attempt, unread_attempt, epoch_of, on_some, beginning, left_unread, stepped, column_after}
+use Rattle.mk_column.specs.AttemptsByCode.{BegunView, as_begun, is_begun, begun_of}
+use Rattle.mk_column.specs.ColumnByCode.{Kept, IsKept, AttemptFits, ClientFits, WorkFits, has_reading, learning_of_kept, column_of}
 use Rattle.mk_column.proofs.ColumnLaws.{client-found, find-passes, Each-find, may_begin-found, may_begin-none}
 use Rattle.mk_column.proofs.ListLaws.{Each-turn, find-change, map-change, changed_member}
 

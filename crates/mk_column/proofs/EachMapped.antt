@@ -1,6 +1,6 @@
 -- Lists each of whose members is changed, one after another.
 use Rattle.std.proofs.Common.{◌≡◌, ℕ, zero, suc, ◌+◌, ◌<◌, refl, sym, subst, ap, ◌∙◌, add-one, List, [], ◌∷◌, ◌++◌, length, get_or, take, arith}
-use Rattle.std.specs.Prelude.{map, slice_set, slice_get, replicate}
+use Rattle.std.specs.Prelude.{map, slice_set, replicate}
 use Rattle.mk_lists.specs.Among.{Each}
 
 -- a list whose first members are changed, so many

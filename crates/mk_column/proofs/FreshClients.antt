@@ -1,6 +1,6 @@
 -- Clients of different numbers that have begun nothing.
 use Rattle.std.proofs.Common.{◌≡◌, ℕ, zero, suc, ◌<◌, Bool, true, false, cond, refl, sym, subst, ap, ◌∙◌, arith, List, [], ◌∷◌, length, get_or, take, Some, None, inl, inr, ◌==◌}
-use Rattle.std.specs.Prelude.{map, find, replicate, ◌||◌}
+use Rattle.std.specs.Prelude.{map, replicate, ◌||◌}
 use Rattle.std.proofs.lemmas.List.{length-replicate}
 use Rattle.std.proofs.lemmas.Bool.Decides.{nat_tests}
 use Rattle.mk_lists.specs.Among.{Among, AllDistinct, Each}
@@ -19,7 +19,7 @@ use Rattle.mk_column.specs.ColumnState.Work.{Idle}
 use Rattle.mk_column.specs.Replicas.{Held, nothing_held}
 use Rattle.mk_column.specs.AttemptsByCode.{BegunView, states_of}
 use Rattle.mk_column.specs.TakeoversByCode.{BackupView, takeovers_of}
-use Rattle.mk_column.specs.ColumnByCode.{ColumnView, IsKept, ClientFits, column_of, column_at_start, learning_of_kept}
+use Rattle.mk_column.specs.ColumnByCode.{IsKept, ClientFits, column_of, column_at_start, learning_of_kept}
 use Rattle.mk_column.proofs.EachMapped.{map-both, map-replicate}
 
 Among-get_or : (xs : List ℕ) (n : ℕ) → n < length xs → Among (get_or xs n 0) xs

@@ -4,14 +4,13 @@ use Rattle.std.specs.Prelude.{find, map, option_map, option_and_then, IsSomeAnd}
 use Rattle.std.proofs.lemmas.Option.{none-some, same_Some}
 use Rattle.mk_txn.specs.declared.TxnId.{TxnId}
 use Rattle.mk_txn.specs.declared.Outcome.{Outcome}
-use Rattle.mk_txn.specs.Stamps.{Before}
 use Rattle.mk_txn.specs.Transactions.{Transaction}
 use Rattle.mk_merge.specs.declared.ReplicaView.{ReplicaView}
-use Rattle.mk_column.specs.ColumnState.{ColumnState, ClientState, AttemptState, attempt_of, client_of, is_attempt}
-use Rattle.mk_column.specs.Learnings.{txn_of, decided}
+use Rattle.mk_column.specs.ColumnState.{ColumnState, ClientState, AttemptState, attempt_of, is_attempt}
+use Rattle.mk_column.specs.Learnings.{decided}
 use Rattle.mk_column.specs.Logs.{not_reading, reading_ended, replica_reset}
 use Rattle.mk_column.specs.ColumnByCode.{ColumnView}
-use Rattle.mk_column.specs.Growing.{HasGrown, last_stamp, client_numbers}
+use Rattle.mk_column.specs.Growing.{HasGrown, client_numbers}
 use Rattle.mk_column.proofs.ColumnLaws.{find-map}
 
 -- clients, attempts and what is decided stay, and an attempt that is new has no transaction

@@ -1,6 +1,6 @@
 -- What a column keeps when an own coordinator takes an answer.
-use Rattle.std.proofs.Common.{◌≡◌, ◌<◌, ℕ, Bool, true, false, cond, refl, sym, subst, ap, ◌∙◌, List, [], ◌∷◌, ◌++◌, Option, Some, None, ◌||◌, ◌&&◌, ◌==◌}
-use Rattle.std.specs.Prelude.{find, map, option_map, slice_get, not, Result, Ok, Err, OnOk, IsSome, IsSomeAnd, if◌then◌else◌}
+use Rattle.std.proofs.Common.{◌≡◌, ◌<◌, ℕ, Bool, true, false, cond, refl, sym, subst, ap, ◌∙◌, List, [], ◌∷◌, ◌++◌, Option, Some, None, ◌&&◌, ◌==◌}
+use Rattle.std.specs.Prelude.{find, option_map, not, Result, Ok, Err, OnOk, IsSome, IsSomeAnd, if◌then◌else◌}
 use Rattle.std.specs.Option.{option_or}
 use Rattle.std.proofs.lemmas.Bool.{false≢true}
 use Rattle.std.proofs.lemmas.List.{append-nil}
@@ -12,10 +12,8 @@ use Rattle.mk_txn.specs.declared.Outcome.{Outcome}
 use Rattle.mk_quorum.specs.Sizes.{members}
 use Rattle.mk_quorum.specs.Slots.{passes}
 use Rattle.mk_trim.specs.SettledAttempts.{SettledAttempts}
-use Rattle.mk_coord.specs.Rulings.{CoordState}
 use Rattle.mk_msg.specs.Links.{goes_to_replica}
 use Rattle.mk_msg.specs.declared.Msg.{Msg}
-use Rattle.mk_msg.specs.declared.Moved.{Moved}
 use Rattle.mk_msg.specs.declared.Told.{Told}
 use Rattle.mk_msg.specs.declared.Body.{Body}
 use Rattle.mk_msg.specs.declared.Body.TheVariants.{Validate as ValidateBody, Voted, Accept, Accepted as AcceptedBody, Decide, Ask, Told as ToldBody, Moved as MovedBody}
@@ -26,9 +24,9 @@ use Rattle.mk_column.specs.ColumnState.Way.{ByMoved, ByTelling}
 use Rattle.mk_column.specs.Answers.{listens, heard_of, moved_outcome, attempt_answered, own_answered, takeover_heard, is_led, answer_taken}
 use Rattle.mk_column.specs.Learnings.{learning_of, by_message, is_heard}
 use Rattle.mk_column.specs.Steps.{taught_where, taught_in, heard_at, heard_taken, counts}
-use Rattle.mk_column.specs.AttemptsByCode.{BegunView, on_state, begun_of, is_begun, states_of}
-use Rattle.mk_column.specs.ColumnByCode.{Kept, IsKept, AttemptFits, ClientFits, learning_of_kept}
-use Rattle.mk_column.proofs.ColumnLaws.{find-passes, Each-find}
+use Rattle.mk_column.specs.AttemptsByCode.{BegunView, on_state, begun_of, is_begun}
+use Rattle.mk_column.specs.ColumnByCode.{Kept, IsKept, AttemptFits, ClientFits}
+use Rattle.mk_column.proofs.ColumnLaws.{Each-find}
 use Rattle.mk_column.proofs.ListLaws.{Each-turn, find-change, map-change, changed_member}
 use Rattle.mk_column.proofs.KeptLaws.{IsGentle}
 

@@ -1,20 +1,14 @@
 -- What a column keeps while an attempt is changed at its place, and while messages, learnings and takeovers are joined.
-use Rattle.std.proofs.Common.{◌≡◌, ℕ, ◌+◌, ◌<◌, ◌≤◌, Bool, true, false, cond, refl, sym, ap, subst, ◌∙◌, ◌||◌, ◌&&◌, ◌==◌, List, [], ◌∷◌, ◌++◌, length, Option, Some, None, IsSome}
-use Rattle.std.specs.Prelude.{find, map, option_map}
-use Rattle.std.specs.Option.{option_or}
+use Rattle.std.proofs.Common.{◌≡◌, ℕ, ◌+◌, ◌<◌, ◌≤◌, true, false, refl, sym, ap, subst, ◌∙◌, ◌||◌, ◌&&◌, ◌==◌, List, Option, Some, None, IsSome}
+use Rattle.std.specs.Prelude.{map, option_map}
 use Rattle.std.specs.List.{list_any}
-use Rattle.std.proofs.lemmas.Bool.{false≢true}
-use Rattle.std.proofs.lemmas.List.Folds.{list_any-append, find-append}
-use Rattle.mk_lists.specs.Among.{Each, Each-append, Each-weaker}
-use Rattle.mk_lists.specs.Changed.{change}
+use Rattle.mk_lists.specs.Among.{Each, Each-weaker}
 use Rattle.mk_txn.specs.declared.TxnId.{TxnId}
-use Rattle.mk_txn.specs.declared.Outcome.{Outcome}
-use Rattle.mk_txn.specs.Transactions.{Transaction, same_id}
-use Rattle.mk_txn.proofs.IdOrder.{same_id-tells, same_id-itself}
+use Rattle.mk_txn.specs.Transactions.{same_id}
 use Rattle.mk_msg.specs.declared.Msg.{Msg}
 use Rattle.mk_quorum.specs.Sizes.{members}
 use Rattle.mk_quorum.specs.Slots.{passes}
-use Rattle.mk_trim.specs.SettledAttempts.{SettledAttempts, AlsoSettles, is_settled as is_kept_settled}
+use Rattle.mk_trim.specs.SettledAttempts.{SettledAttempts, is_settled as is_kept_settled}
 use Rattle.mk_column.specs.declared.clients.Client.{Client}
 use Rattle.mk_column.specs.declared.learned.Learned.{Learned}
 use Rattle.mk_column.specs.declared.work.Work.{Work as KeptWork}
@@ -22,13 +16,11 @@ use Rattle.mk_column.specs.declared.work.Work.TheVariants.{Idle as KeptIdle, Fet
 use Rattle.mk_column.specs.ColumnState.{Learning, is_settled}
 use Rattle.mk_column.specs.Replicas.{Held}
 use Rattle.mk_column.specs.Conditions.{is_validate_of, is_idle}
-use Rattle.mk_column.specs.Learnings.{is_decision_of, is_finishing}
-use Rattle.mk_column.specs.Steps.{taught}
 use Rattle.mk_column.specs.HeldByCode.{work_of}
-use Rattle.mk_column.specs.AttemptsByCode.{BegunView, begun_of, is_begun, change_begun, on_state}
+use Rattle.mk_column.specs.AttemptsByCode.{BegunView, begun_of, is_begun, change_begun}
 use Rattle.mk_column.specs.TakeoversByCode.{BackupView}
 use Rattle.mk_column.specs.ClientsByCode.{kept_client}
-use Rattle.mk_column.specs.ColumnByCode.{Kept, AttemptFits, ClientFits, IsKept, WorkFits, has_reading, first_decision, learning_of_kept}
+use Rattle.mk_column.specs.ColumnByCode.{Kept, AttemptFits, ClientFits, IsKept, WorkFits, first_decision, learning_of_kept}
 use Rattle.mk_column.proofs.ListLaws.{Each-turn, find-change, passes-changed, changed_member, list_any-kept, none-from_map}
 
 -- where no key call is under way, nothing is to be kept of it

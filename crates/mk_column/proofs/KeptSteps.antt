@@ -4,7 +4,6 @@ use Rattle.std.specs.Prelude.{find, map, option_map, is_some}
 use Rattle.std.specs.Option.{option_or}
 use Rattle.std.specs.List.{list_any}
 use Rattle.std.proofs.lemmas.Bool.{false≢true}
-use Rattle.std.proofs.lemmas.Bool.Decides.{nat_tests}
 use Rattle.std.proofs.lemmas.List.Folds.{list_any-append, find-append}
 use Rattle.mk_lists.specs.Among.{Each, Each-append, Each-weaker}
 use Rattle.mk_lists.specs.Changed.{Each-change}
@@ -19,7 +18,7 @@ use Rattle.mk_msg.specs.declared.MsgKind.TheVariants.{Validate}
 use Rattle.mk_msg.specs.Links.{kind_of}
 use Rattle.mk_quorum.specs.Sizes.{members}
 use Rattle.mk_quorum.specs.Slots.{passes}
-use Rattle.mk_trim.specs.SettledAttempts.{SettledAttempts, AlsoSettles, is_settled as is_kept_settled}
+use Rattle.mk_trim.specs.SettledAttempts.{SettledAttempts, AlsoSettles}
 use Rattle.mk_column.specs.declared.learned.Learned.{Learned}
 use Rattle.mk_column.specs.ColumnState.{AttemptState, TakeoverOf, is_takeover, Learning, Way, is_settled, to_all, numbers_from}
 use Rattle.mk_column.specs.Conditions.{is_validate_of}

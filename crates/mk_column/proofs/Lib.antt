@@ -24,3 +24,5 @@ pub mod AnswerLaws
 pub mod TakeLaws
 pub mod HearLaws
 pub mod GrownLaws
+pub mod QuietSteps
+pub mod GrownSteps

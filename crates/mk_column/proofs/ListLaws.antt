@@ -1,5 +1,5 @@
 -- What changing some members of a list, and appending to it, leaves.
-use Rattle.std.proofs.Common.{◌≡◌, Bool, true, false, cond, refl, sym, ap, ◌∙◌, ◌||◌, List, [], ◌∷◌, ◌++◌, Option, Some, None}
+use Rattle.std.proofs.Common.{◌≡◌, Bool, true, false, cond, refl, sym, ap, ◌∙◌, ◌||◌, List, [], ◌∷◌, Option, Some, None}
 use Rattle.std.specs.Prelude.{find, map, option_map, IsSome}
 use Rattle.std.specs.List.{list_any}
 use Rattle.mk_lists.specs.Among.{Each}

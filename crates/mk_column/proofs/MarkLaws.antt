@@ -1,12 +1,10 @@
 -- A client's mark by the settled attempts is its mark by its attempts.
-use Rattle.std.proofs.Common.{◌≡◌, ℕ, zero, suc, ◌+◌, ◌<◌, ◌≤◌, ◌^◌, Bool, true, false, cond, refl, sym, ap, subst, ◌∙◌, ◌||◌, ◌&&◌, ◌==◌, arith, List, [], ◌∷◌, length, Option, Some, None}
-use Rattle.std.specs.Prelude.{find, map, option_map, is_some}
+use Rattle.std.proofs.Common.{◌≡◌, ℕ, zero, suc, ◌+◌, ◌<◌, ◌≤◌, ◌^◌, Bool, true, false, cond, refl, sym, ap, ◌∙◌, ◌||◌, ◌&&◌, ◌==◌, arith, List, [], ◌∷◌, length, Option, Some, None}
+use Rattle.std.specs.Prelude.{map, option_map, is_some}
 use Rattle.std.proofs.lemmas.Bool.{false≢true}
 use Rattle.std.proofs.lemmas.Bool.Decides.{nat_tests}
 use Rattle.std.proofs.lemmas.List.{length-map}
-use Rattle.mk_lists.specs.Among.{Each}
 use Rattle.mk_txn.specs.declared.TxnId.{TxnId}
-use Rattle.mk_txn.specs.Transactions.{same_id}
 use Rattle.mk_txn.proofs.IdOrder.{same_id-tells}
 use Rattle.mk_quorum.specs.Slots.{passes}
 use Rattle.mk_quorum.specs.Counts.{count_below}
@@ -14,7 +12,7 @@ use Rattle.mk_quorum.proofs.Counting.{count_below-same}
 use Rattle.mk_trim.specs.Settling.{all_upto, greatest_upto}
 use Rattle.mk_trim.specs.SettledAttempts.{SettledAttempts, IsMark, is_settled as is_kept_settled}
 use Rattle.mk_trim.proofs.MarkIsGreatest.{greatest_upto-mark}
-use Rattle.mk_column.specs.ColumnState.{ColumnState, AttemptState, is_settled, is_attempt, attempt_of, client_mark}
+use Rattle.mk_column.specs.ColumnState.{is_settled, attempt_of, client_mark}
 use Rattle.mk_column.specs.AttemptsByCode.{BegunView, begun_of, is_begun, states_of}
 use Rattle.mk_column.specs.ColumnByCode.{Kept, AttemptFits, IsKept, column_of, learning_of_kept}
 use Rattle.mk_column.proofs.ColumnLaws.{attempt-found, Each-find, find-passes}

@@ -1,13 +1,13 @@
 -- What a column keeps when a round begins.
-use Rattle.std.proofs.Common.{◌≡◌, ◌<◌, ℕ, Bool, true, false, refl, sym, subst, ap, ◌+◌, ◌∙◌, List, [], ◌∷◌, Option, Some, None, ◌||◌, ◌==◌, arith}
-use Rattle.std.specs.Prelude.{map, find, option_map, IsSome}
+use Rattle.std.proofs.Common.{◌≡◌, ◌<◌, ℕ, true, false, refl, sym, subst, ap, ◌+◌, ◌∙◌, List, [], ◌∷◌, Option, Some, None, ◌||◌, ◌==◌}
+use Rattle.std.specs.Prelude.{map, option_map, IsSome}
 use Rattle.std.proofs.lemmas.Option.{none-some}
 use Rattle.std.proofs.lemmas.Bool.{false≢true}
 use Rattle.mk_quorum.specs.Sizes.{members}
 use Rattle.mk_column.specs.Replicas.{Held}
 use Rattle.mk_column.specs.declared.work.Work.{Work as KeptWork}
 use Rattle.mk_column.specs.declared.work.Work.TheVariants.{Idle as KeptIdle, Fetching as KeptFetching, Validating as KeptValidating, Finishing as KeptFinishing}
-use Rattle.mk_lists.specs.Among.{Each, Each-weaker}
+use Rattle.mk_lists.specs.Among.{Each-weaker}
 use Rattle.mk_column.specs.TakeoversByCode.{BackupView}
 use Rattle.mk_column.proofs.ListLaws.{map-there}
 use Rattle.mk_txn.specs.declared.TxnId.{TxnId}

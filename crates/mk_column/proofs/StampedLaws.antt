@@ -1,20 +1,18 @@
 -- What a column keeps when an attempt is stamped.
 use Rattle.std.proofs.Common.{◌≡◌, ◌<◌, ◌≤◌, ◌+◌, ◌^◌, ℕ, Bool, true, false, cond, refl, sym, subst, ap, ◌∙◌, List, [], ◌∷◌, ◌++◌, Option, Some, None, ◌||◌, ◌&&◌, ◌==◌, arith}
-use Rattle.std.specs.Prelude.{map, find, option_map, nat_lt, nat_le, is_some, IsSome, IsSomeAnd}
-use Rattle.std.specs.List.{list_any}
+use Rattle.std.specs.Prelude.{map, option_map, nat_lt, nat_le, is_some, IsSome}
 use Rattle.std.proofs.lemmas.List.{append-nil}
 use Rattle.std.proofs.lemmas.Bool.{false≢true}
 use Rattle.std.proofs.lemmas.Bool.Decides.{nat_tests}
 use Rattle.std.proofs.lemmas.Option.{none-some, same_Some}
 use Rattle.mk_lists.specs.Among.{Each, Each-weaker}
 use Rattle.mk_column.specs.TakeoversByCode.{BackupView}
-use Rattle.mk_lists.specs.Changed.{change}
 use Rattle.mk_txn.specs.declared.TxnId.{TxnId}
 use Rattle.mk_txn.specs.declared.Stamp.{Stamp as StampType}
 use Rattle.mk_txn.specs.declared.ReadItem.{ReadItem}
 use Rattle.mk_txn.specs.declared.WriteItem.{WriteItem}
 use Rattle.mk_txn.specs.Stamps.{next_stamp_of, fresh_time}
-use Rattle.mk_txn.specs.Transactions.{same_id, Transaction}
+use Rattle.mk_txn.specs.Transactions.{Transaction}
 use Rattle.mk_txn.proofs.IdOrder.{same_id-tells}
 use Rattle.mk_quorum.specs.Slots.{passes}
 use Rattle.mk_quorum.specs.Sizes.{members}
@@ -24,11 +22,11 @@ use Rattle.mk_column.specs.declared.clients.Client.{Client}
 use Rattle.mk_column.specs.declared.Step.TheVariants.{Stamp}
 use Rattle.mk_column.specs.HeldByCode.{work_of}
 use Rattle.mk_column.specs.ClientsByCode.{client_state, client_states, kept_client, change_kept, client_stamped}
-use Rattle.mk_column.specs.ColumnState.{Setting, ColumnState, ClientState, AttemptState, Learning, is_settled, client_of, attempt_of, is_client, is_attempt}
+use Rattle.mk_column.specs.ColumnState.{Setting, ColumnState, ClientState, AttemptState, Learning, is_settled, client_of, attempt_of, is_client}
 use Rattle.mk_column.specs.Conditions.{is_idle, stamp_exists}
 use Rattle.mk_column.specs.Steps.{on_some, stamping, stamped, stamped_txn, with_txn, with_last_time, stepped, column_after}
 use Rattle.mk_column.specs.AttemptsByCode.{BegunView, on_state, is_begun, begun_of, change_begun, states_of}
-use Rattle.mk_column.specs.ColumnByCode.{Kept, IsKept, AttemptFits, ClientFits, WorkFits, has_reading, learning_of_kept, column_of}
+use Rattle.mk_column.specs.ColumnByCode.{Kept, IsKept, AttemptFits, ClientFits, has_reading, learning_of_kept, column_of}
 use Rattle.mk_column.proofs.ColumnLaws.{client-found, attempt-found, find-passes, Each-find}
 use Rattle.mk_column.proofs.ListLaws.{Each-turn, find-change, map-change, changed_member, passes-changed, none-from_map, map-there}
 use Rattle.mk_column.proofs.KeptLaws.{idle-fits}

@@ -1,6 +1,6 @@
 -- What a step makes of the tables of a column.
-use Rattle.std.proofs.Common.{◌≡◌, ℕ, Bool, true, false, ◌&&◌, refl, sym, ap, subst, ◌∙◌, List, [], ◌∷◌, ◌++◌, Option, Some, None, IsSome}
-use Rattle.std.specs.Prelude.{find, map, is_some, is_none, option_map, option_copied, IsSomeAnd}
+use Rattle.std.proofs.Common.{◌≡◌, ℕ, Bool, true, ◌&&◌, refl, sym, ap, subst, ◌∙◌, List, [], ◌++◌, Option, Some, None, IsSome}
+use Rattle.std.specs.Prelude.{find, is_some, is_none, option_map, IsSomeAnd}
 use Rattle.std.proofs.lemmas.List.{append-nil}
 use Rattle.mk_lists.specs.Among.{Each}
 use Rattle.mk_lists.specs.Changed.{change}
@@ -12,7 +12,7 @@ use Rattle.mk_txn.specs.declared.TxnId.{TxnId}
 use Rattle.std.proofs.lemmas.Option.{none-some, same_Some}
 use Rattle.mk_txn.specs.declared.Outcome.{Outcome}
 use Rattle.mk_txn.proofs.IdOrder.{same_id-tells}
-use Rattle.mk_msg.specs.declared.Body.TheVariants.{Validate as ValidateBody, Accept, Decide, Ask}
+use Rattle.mk_msg.specs.declared.Body.TheVariants.{Validate as ValidateBody, Accept, Decide}
 use Rattle.mk_quorum.specs.Slots.{passes}
 use Rattle.mk_column.specs.declared.Attempt.{Attempt}
 use Rattle.mk_column.specs.ColumnState.{ColumnState, Setting, AttemptState, Learning, is_attempt, attempt_of, change_attempt, shown, send, to_all, mark_sent}

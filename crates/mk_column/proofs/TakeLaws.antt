@@ -1,6 +1,6 @@
 -- What a column keeps when a replica takes a message.
 use Rattle.std.proofs.Common.{◌≡◌, ◌<◌, ℕ, zero, suc, Bool, true, false, refl, sym, subst, ap, ◌∙◌, List, [], ◌∷◌, ◌++◌, Option, Some, None, ◌||◌, ◌&&◌, not, length, length-set, get_or, arith, cond}
-use Rattle.std.specs.Prelude.{find, map, option_map, option_and_then, slice_get, slice_set, slice_index_or, is_some, nat_lt, nat_le, ◌-◌, option_copied, IsSome, IsSomeAnd, if◌then◌else◌}
+use Rattle.std.specs.Prelude.{find, map, option_map, option_and_then, slice_get, slice_set, slice_index_or, is_some, nat_lt, nat_le, ◌-◌, option_copied, IsSomeAnd, if◌then◌else◌}
 use Rattle.std.specs.List.{list_any}
 use Rattle.std.specs.Option.{option_or}
 use Rattle.std.proofs.lemmas.List.{map-set, map-append, append-nil, set-get_or}
@@ -20,7 +20,6 @@ use Rattle.mk_msg.specs.declared.Body.TheVariants.{Validate as ValidateBody, Vot
 use Rattle.mk_msg.specs.Links.{goes_to_replica, message}
 use Rattle.mk_valid.specs.Checks.{KeyAct}
 use Rattle.mk_quorum.specs.Sizes.{members}
-use Rattle.mk_quorum.specs.Slots.{passes}
 use Rattle.mk_trim.specs.SettledAttempts.{SettledAttempts}
 use Rattle.mk_merge.specs.declared.ReplicaView.{ReplicaView}
 use Rattle.mk_column.specs.declared.learned.Learned.{Learned}
@@ -30,12 +29,12 @@ use Rattle.std.specs.Slice.{IsItemAt}
 use Rattle.std.proofs.lemmas.Option.{none-some, same_Some, slice_get_past, slice_get_read}
 use Rattle.mk_column.specs.declared.work.Work.{Work as KeptWork}
 use Rattle.mk_column.specs.declared.work.Work.TheVariants.{Idle as KeptIdle, Fetching as KeptFetching, Validating as KeptValidating, Finishing as KeptFinishing}
-use Rattle.mk_column.specs.ColumnState.{Setting, ColumnState, Learning, Work, AttemptState, is_attempt, entries_at, marks_at}
+use Rattle.mk_column.specs.ColumnState.{Setting, ColumnState, Learning, Work, AttemptState, is_attempt, entries_at}
 use Rattle.mk_column.specs.ColumnState.Work.{Idle, Fetching, Validating, Finishing}
 use Rattle.mk_column.specs.Conditions.{is_validate_of, is_idle}
 use Rattle.mk_column.specs.HeldByCode.{work_of, sent_of, reaction_with}
 use Rattle.mk_column.specs.Learnings.{txn_of, is_decision_of, is_final, is_finished_by, finished_by, by_message, by_taken}
-use Rattle.mk_column.specs.Replicas.{Held, Reaction, reply, ignored, answering, entry_or_opened, with_entry, marking, reaction, reaction_by_view, moved_reaction, validate_known, validate_unfinished, ask_known, ask_unfinished, accept_known, accept_unfinished, decide_known, finishing, is_serving, serves, held_at, reacted}
+use Rattle.mk_column.specs.Replicas.{Held, Reaction, reply, ignored, answering, entry_or_opened, with_entry, marking, reaction, reaction_by_view, moved_reaction, validate_known, validate_unfinished, ask_known, accept_known, decide_known, finishing, is_serving, serves, held_at, reacted}
 use Rattle.mk_column.specs.Steps.{on_some, replica_takes, delivered, heard_taken, taken, column_after}
 use Rattle.mk_column.specs.Answers.{answer_taken}
 use Rattle.mk_column.specs.declared.Step.TheVariants.{Take}

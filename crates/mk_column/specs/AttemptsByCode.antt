@@ -5,7 +5,7 @@ use Rattle.mk_lists.specs.Changed.{change}
 use Rattle.mk_txn.specs.declared.TxnId.{TxnId}
 use Rattle.mk_txn.specs.Transactions.{same_id}
 use Rattle.mk_txn.specs.declared.Outcome.{Outcome}
-use Rattle.mk_coord.specs.Rulings.{CoordState, coord_taught}
+use Rattle.mk_coord.specs.Rulings.{CoordState}
 use Rattle.mk_column.specs.declared.Attempt.{Attempt}
 use Rattle.mk_column.specs.ColumnState.{AttemptState}
 

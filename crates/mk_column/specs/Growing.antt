@@ -1,5 +1,5 @@
 -- What of a column stays while steps are done and rounds begin.
-use Rattle.std.specs.Prelude.{◌≡◌, ◌==◌, if◌then◌else◌, ℕ, List, map, Option, Some, None, IsSomeAnd}
+use Rattle.std.specs.Prelude.{◌≡◌, ◌==◌, if◌then◌else◌, ℕ, true, List, map, Some, None, IsSomeAnd}
 use Rattle.mk_txn.specs.declared.TxnId.{TxnId}
 use Rattle.mk_txn.specs.declared.Stamp.{Stamp}
 use Rattle.mk_txn.specs.declared.Outcome.{Outcome}
@@ -19,6 +19,10 @@ last_stamp client =
 -- the numbers of a column's clients
 abbrev pub client_numbers : ColumnState → List ℕ
 client_numbers column = map (λ client. client.number) column.clients
+
+-- an attempt that reads has no transaction
+abbrev pub ReadsUnstamped : ColumnState → Type 0
+ReadsUnstamped column = (id : TxnId) (attempt : AttemptState) → attempt_of column id ≡ Some attempt → attempt.reading ≡ true → attempt.txn ≡ None
 
 -- a column has grown from what it was: its number, clients and keys stay, and so do its attempts, their transactions
 -- and what is decided. An attempt that was stamped since has a stamp above its client's last stamp before.

@@ -2,6 +2,7 @@
 ghost use Rattle.std.specs.Prelude.{◌≡◌, ◌∷◌, ◌++◌, [], None, OnOk, OnErr, IfErr};
 ghost use Rattle.mk_column.specs.Conditions.{blocked as blocked_by, error_of};
 ghost use Rattle.mk_column.specs.Steps.{column_after};
+ghost use Rattle.mk_column.specs.Growing.{HasGrown, ReadsUnstamped};
 
 use crate::column::Column;
 use crate::{ColumnError, Step};
@@ -13,6 +14,7 @@ impl Column {
     pub fn step(&mut self, step: Step) -> Result<(), ColumnError>
         ensures enabled { OnOk result (blocked_by self.old.setting self.old.state step ≡ None) }
         ensures ok { OnOk result (self.new ≡ record self.old { state = column_after self.old.setting self.old.state step; log = self.old.log ++ step ∷ [] }) }
+        ensures grown { OnOk result (HasGrown self.old self.new) }
         ensures refused { IfErr result (λ error. error ≡ error_of (blocked_by self.old.setting self.old.state step)) }
         ensures err { OnErr result (self.new ≡ self.old) }
     {
@@ -27,6 +29,7 @@ impl Column {
     fn do_and_log(&mut self, step: Step) -> Result<(), NoMemory>
         requires { blocked_by self.old.setting self.old.state step ≡ None }
         ensures ok { OnOk result (self.new ≡ record self.old { state = column_after self.old.setting self.old.state step; log = self.old.log ++ step ∷ [] }) }
+        ensures unstamped { OnOk result (ReadsUnstamped self.old.state) }
         ensures err { OnErr result (self.new ≡ self.old) }
     {
         self.log.reserve(1)?;

@@ -24,6 +24,8 @@ mod stamping;
 mod stepping;
 mod takeovers;
 mod taking;
+#[cfg(test)]
+mod tests;
 mod work;
 
 pub use column::Column;

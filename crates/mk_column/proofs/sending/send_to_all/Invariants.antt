@@ -1,5 +1,4 @@
 use Rattle.std.proofs.Common.{◌≡◌, ◌≤◌, ◌-◌, ◌++◌}
-use Rattle.mk_quorum.specs.Sizes.{members}
 use Rattle.mk_column.specs.ColumnState.{to_all}
 use Rattle.mk_column.proofs.SendLaws.{still_sent}
 use Rattle.mk_column.proofs.sending.send_to_all.Given as goal

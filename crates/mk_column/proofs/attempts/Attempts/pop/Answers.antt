@@ -1,11 +1,11 @@
-use Rattle.std.proofs.Common.{◌≡◌, ◌++◌, ◌∷◌, [], List, Some, None, cond, sym, ap, subst, ◌∙◌, ◌+◌, length, length-append, arith, rules}
+use Rattle.std.proofs.Common.{◌≡◌, ◌++◌, ◌∷◌, [], None, cond, sym, ap, subst, ◌∙◌, ◌+◌, length, length-append, arith, rules}
 use Rattle.std.specs.Prelude.{map}
 use Rattle.std.specs.BTreeMap.{is_at}
 use Rattle.std.specs.Option.{option_to_list}
 use Rattle.mk_txn.specs.declared.TxnId.{TxnId}
 use Rattle.mk_txn.specs.Transactions.{same_id, id_cmp}
 use Rattle.mk_txn.proofs.IdOrder.{same_id-tells, same_id-itself, id_cmp-equal}
-use Rattle.mk_column.specs.AttemptsByCode.{BegunView, begun_id}
+use Rattle.mk_column.specs.AttemptsByCode.{begun_id}
 use Rattle.mk_column.specs.Tables.{IsIndexed, kept_place}
 use Rattle.mk_column.proofs.EachMapped.{fronts-same}
 use Rattle.std.proofs.lemmas.Grind.{common_steps}

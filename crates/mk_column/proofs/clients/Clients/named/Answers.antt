@@ -1,6 +1,4 @@
-use Rattle.std.proofs.Common.{◌≡◌, ◌<◌, length, take, arith, get_or}
-use Rattle.std.specs.Prelude.{None, map}
-use Rattle.mk_column.specs.ClientsByCode.{fresh_client, kept_client}
+use Rattle.std.proofs.Common.{◌<◌, length, arith}
 use Rattle.mk_column.proofs.FreshClients.{fresh-none}
 use Rattle.mk_column.proofs.clients.Clients.named.Goals as goal
 

@@ -1,7 +1,6 @@
-use Rattle.std.proofs.Common.{rules, ◌≡◌, Some, sym, ap, subst, ◌∙◌}
+use Rattle.std.proofs.Common.{◌≡◌, Some, sym, ap, subst, ◌∙◌}
 use Rattle.std.specs.Prelude.{option_map, option_copied, OnOk}
 use Rattle.mk_column.specs.ColumnState.{attempt_of, shown}
-use Rattle.mk_column.specs.ColumnByCode.{ColumnView}
 use Rattle.mk_column.proofs.StepLaws.{again-state}
 use Rattle.mk_column.proofs.column.Column.again.Goals as goal
 

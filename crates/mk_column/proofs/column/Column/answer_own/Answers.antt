@@ -1,8 +1,7 @@
 use Rattle.std.proofs.Common.{◌≡◌, true, sym, ap, ◌∙◌}
-use Rattle.mk_column.specs.ColumnState.{ColumnState, change_attempt, attempt_of}
+use Rattle.mk_column.specs.ColumnState.{ColumnState, attempt_of}
 use Rattle.mk_column.specs.ColumnState.Way.{ByTelling}
-use Rattle.mk_column.specs.ColumnByCode.{ColumnView}
-use Rattle.mk_column.specs.Answers.{listens, attempt_answered}
+use Rattle.mk_column.specs.Answers.{listens}
 use Rattle.mk_column.specs.Steps.{taught_in, heard_taken, counts}
 use Rattle.mk_column.proofs.HearLaws.{told-own, counted-own, ok-then}
 use Rattle.mk_column.proofs.column.Column.answer_own.Goals as goal

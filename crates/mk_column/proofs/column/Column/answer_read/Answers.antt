@@ -1,15 +1,13 @@
-use Rattle.std.proofs.Common.{◌≡◌, Some, sym, ap, ◌∙◌, refl}
-use Rattle.std.specs.Prelude.{IsSome}
+use Rattle.std.proofs.Common.{◌≡◌, sym, ap, ◌∙◌, refl}
 use Rattle.mk_lists.specs.Changed.{change}
 use Rattle.mk_cell.specs.declared.Answer.{Answer}
 use Rattle.mk_cell.specs.declared.Answer.TheVariants.{Version}
-use Rattle.mk_txn.specs.declared.ReadItem.{ReadItem}
 use Rattle.mk_column.specs.contracts.column.Column.{the_view}
-use Rattle.mk_column.specs.ColumnState.{ColumnState, is_attempt}
+use Rattle.mk_column.specs.ColumnState.{is_attempt}
 use Rattle.mk_column.specs.ColumnState.Work.{Idle}
 use Rattle.mk_column.specs.AttemptsByCode.{states_of}
 use Rattle.mk_column.specs.Steps.{fetched, with_read}
-use Rattle.mk_column.specs.ColumnByCode.{ColumnView, Kept}
+use Rattle.mk_column.specs.ColumnByCode.{ColumnView}
 use Rattle.mk_column.proofs.StepLaws.{begun-there, states-changed}
 use Rattle.mk_column.proofs.KeptLaws.{IsKept-gentle}
 use Rattle.mk_column.proofs.AnswerLaws.{IsKept-idle, read-gentle}

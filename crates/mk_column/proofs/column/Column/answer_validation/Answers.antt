@@ -1,13 +1,12 @@
 use Rattle.std.proofs.Common.{◌≡◌, ◌<◌, ◌++◌, ◌∷◌, [], Some, sym, ap, subst, ◌∙◌, refl, length, length-set}
 use Rattle.mk_txn.specs.declared.TxnId.{TxnId}
-use Rattle.mk_msg.specs.declared.Msg.{Msg}
 use Rattle.mk_quorum.specs.Sizes.{members}
 use Rattle.mk_record.specs.Entries.{change_entry, with_vote}
 use Rattle.mk_valid.specs.Validations.{ValidationState, vote_unless_left, next_act, after_answer}
 use Rattle.mk_column.specs.contracts.column.Column.{the_view}
 use Rattle.mk_column.specs.declared.work.Work.TheVariants.{Idle as KeptIdle, Validating as KeptValidating}
 use Rattle.mk_column.specs.Steps.{answered, voted_msg}
-use Rattle.mk_column.specs.ColumnByCode.{ColumnView, Kept, IsKept, WorkFits}
+use Rattle.mk_column.specs.ColumnByCode.{ColumnView, Kept, WorkFits}
 use Rattle.mk_column.proofs.BeginLaws.{ensured-ok}
 use Rattle.mk_column.proofs.AnswerLaws.{IsKept-replied, vote-state}
 use Rattle.mk_column.proofs.column.Column.answer_validation.Goals as goal

@@ -1,13 +1,13 @@
-use Rattle.std.proofs.Common.{◌≡◌, ◌==◌, refl, ◌≤◌, ◌++◌, ◌∷◌, [], true, false, Some, None, sym, ap, subst, ◌∙◌}
+use Rattle.std.proofs.Common.{◌≡◌, ◌==◌, refl, ◌++◌, ◌∷◌, [], Some, None, sym, ap, subst, ◌∙◌}
 use Rattle.std.specs.Prelude.{option_copied, IsSome}
 use Rattle.mk_column.specs.contracts.column.Column.{the_view}
 use Rattle.mk_column.specs.declared.clients.Client.{Client}
 use Rattle.mk_column.specs.declared.Step.TheVariants.{Begin}
-use Rattle.mk_column.specs.ClientsByCode.{kept_client, next_of, client_begun}
+use Rattle.mk_column.specs.ClientsByCode.{kept_client, next_of}
 use Rattle.mk_column.specs.AttemptsByCode.{BegunView, as_begun, begun_of}
 use Rattle.mk_column.specs.Steps.{new_attempt}
 use Rattle.mk_column.specs.Conditions.{blocked}
-use Rattle.mk_column.specs.ColumnByCode.{Kept, ClientFits, column_of}
+use Rattle.mk_column.specs.ColumnByCode.{Kept, ClientFits}
 use Rattle.mk_column.proofs.ColumnLaws.{Each-find}
 use Rattle.mk_column.proofs.Frames.{enabled}
 use Rattle.mk_column.proofs.StepLaws.{step-view}

@@ -1,4 +1,3 @@
-use Rattle.std.proofs.Common.{◌≡◌, refl, sym, ap, ◌∙◌}
 use Rattle.mk_column.proofs.RoundLaws.{IsKept-quiet, round-view}
 use Rattle.mk_column.proofs.GrownLaws.{round-grown}
 use Rattle.mk_column.proofs.column.Column.begin_round.Goals as goal

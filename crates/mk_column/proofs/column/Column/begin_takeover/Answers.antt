@@ -1,7 +1,7 @@
-use Rattle.std.proofs.Common.{◌≡◌, None, ◌++◌, IsSome, refl, sym, ap, subst, ◌∙◌}
+use Rattle.std.proofs.Common.{◌++◌, IsSome, sym, ap, subst, ◌∙◌}
 use Rattle.mk_msg.specs.declared.Body.TheVariants.{Ask}
 use Rattle.mk_column.specs.ColumnState.{to_all}
-use Rattle.mk_column.specs.TakeoversByCode.{backup_of, backup_begun, turn_of}
+use Rattle.mk_column.specs.TakeoversByCode.{backup_of, turn_of}
 use Rattle.mk_column.specs.AttemptsByCode.{begun_of}
 use Rattle.mk_column.proofs.StepLaws.{begun-there}
 use Rattle.mk_column.proofs.KeptSteps.{IsKept-takes_over, IsKept-tells}

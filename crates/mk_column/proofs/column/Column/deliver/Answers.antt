@@ -1,10 +1,9 @@
-use Rattle.std.proofs.Common.{◌≡◌, ◌<◌, ◌++◌, true, None, Some, sym, ap, subst, ◌∙◌, refl, List, length}
+use Rattle.std.proofs.Common.{◌≡◌, ◌<◌, ◌++◌, None, Some, sym, ap, subst, ◌∙◌, List, length}
 use Rattle.std.specs.Prelude.{map, option_copied, option_and_then, slice_get}
 use Rattle.mk_quorum.specs.Sizes.{members}
 use Rattle.mk_merge.specs.declared.ReplicaView.{ReplicaView}
 use Rattle.mk_column.specs.contracts.column.Column.{the_view}
 use Rattle.mk_column.specs.AttemptsByCode.{BegunView, begun_of}
-use Rattle.mk_column.specs.Conditions.{is_idle}
 use Rattle.mk_column.specs.HeldByCode.{sent_of}
 use Rattle.mk_column.specs.Learnings.{finished_by, txn_of}
 use Rattle.mk_column.specs.Steps.{delivered}

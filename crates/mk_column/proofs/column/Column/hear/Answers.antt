@@ -1,9 +1,9 @@
-use Rattle.std.proofs.Common.{◌≡◌, None, Some, ◌==◌, refl, sym, ap, subst, ◌∙◌}
+use Rattle.std.proofs.Common.{◌≡◌, None, Some, refl, sym, ap, subst, ◌∙◌}
 use Rattle.std.specs.Prelude.{option_copied, option_map, IsSome}
 use Rattle.mk_column.specs.contracts.column.Column.{the_view}
 use Rattle.mk_column.specs.declared.clients.Client.{Client}
 use Rattle.mk_column.specs.ClientsByCode.{client_state, client_states, kept_client, change_kept, client_heard}
-use Rattle.mk_column.specs.ColumnState.{ClientState, is_client, client_of, change_client}
+use Rattle.mk_column.specs.ColumnState.{is_client, client_of, change_client}
 use Rattle.mk_column.specs.Steps.{heard_at}
 use Rattle.mk_column.specs.ColumnByCode.{ColumnView}
 use Rattle.mk_column.proofs.ColumnLaws.{client-found}

@@ -1,4 +1,4 @@
-use Rattle.std.proofs.Common.{◌≡◌, ◌<◌, sym, ap, subst, ◌∙◌}
+use Rattle.std.proofs.Common.{◌<◌, sym, ap, subst, ◌∙◌}
 use Rattle.mk_quorum.specs.Sizes.{members}
 use Rattle.mk_column.specs.contracts.column.Column.{the_view}
 use Rattle.mk_column.specs.Answers.{takeover_answered}

@@ -4,11 +4,10 @@ use Rattle.std.specs.Option.{option_or}
 use Rattle.std.proofs.lemmas.List.{map-append}
 use Rattle.mk_msg.specs.declared.Body.TheVariants.{Decide}
 use Rattle.mk_column.specs.contracts.column.Column.{the_view}
-use Rattle.mk_column.specs.declared.learned.Learned.{Learned}
-use Rattle.mk_column.specs.ColumnState.{Learning, AttemptState, to_all, send, change_attempt}
+use Rattle.mk_column.specs.ColumnState.{to_all, send, change_attempt}
 use Rattle.mk_column.specs.Learnings.{learning}
 use Rattle.mk_column.specs.Steps.{taught, with_learning}
-use Rattle.mk_column.specs.AttemptsByCode.{begun_of, states_of, on_state, change_begun}
+use Rattle.mk_column.specs.AttemptsByCode.{begun_of, states_of, on_state}
 use Rattle.mk_column.specs.ColumnByCode.{ColumnView, learning_of_kept, way_of}
 use Rattle.mk_column.proofs.KeptLaws.{some-after}
 use Rattle.mk_column.proofs.KeptSteps.{IsKept-settles, IsKept-decides, IsKept-tells, taught-gentle}

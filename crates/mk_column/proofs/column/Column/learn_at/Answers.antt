@@ -1,10 +1,9 @@
-use Rattle.std.proofs.Common.{rules, ◌≡◌, ◌++◌, ◌∷◌, [], Some, IsSome, refl, sym, ap, subst, ◌∙◌}
+use Rattle.std.proofs.Common.{rules, ◌≡◌, ◌++◌, ◌∷◌, [], Some, IsSome, refl, sym, ap, ◌∙◌}
 use Rattle.std.specs.Prelude.{map}
 use Rattle.std.specs.Option.{option_or}
 use Rattle.std.proofs.lemmas.List.{map-append}
 use Rattle.mk_msg.specs.declared.Body.TheVariants.{Decide}
 use Rattle.mk_column.specs.contracts.column.Column.{the_view}
-use Rattle.mk_column.specs.declared.learned.Learned.{Learned}
 use Rattle.mk_column.specs.ColumnState.{to_all, send, change_takeover}
 use Rattle.mk_column.specs.Learnings.{learning}
 use Rattle.mk_column.specs.Steps.{closing, with_learning}

@@ -1,6 +1,6 @@
 use Rattle.mk_column.proofs.FreshClients.{start-view, start-kept}
 use Rattle.mk_column.proofs.column.Column.new.Goals as goal
-use Rattle.std.proofs.Common.{◌≡◌, ◌∙◌, ap, [], rules}
+use Rattle.std.proofs.Common.{◌≡◌, ◌∙◌, ap}
 use Rattle.std.specs.Prelude.{replicate}
 use Rattle.mk_quorum.specs.Sizes.{members}
 use Rattle.mk_column.specs.Replicas.{nothing_held}

@@ -1,9 +1,8 @@
-use Rattle.std.proofs.Common.{◌≡◌, true, None, Some, sym, ap, subst, ◌∙◌, refl}
-use Rattle.std.specs.Prelude.{IsSome, option_copied, option_map}
+use Rattle.std.proofs.Common.{◌≡◌, None, Some, sym, ap, subst, ◌∙◌}
+use Rattle.std.specs.Prelude.{IsSome, option_copied}
 use Rattle.mk_column.specs.contracts.column.Column.{the_view}
 use Rattle.mk_column.specs.declared.Attempt.{Attempt}
 use Rattle.mk_column.specs.declared.Step.TheVariants.{Read}
-use Rattle.mk_column.specs.declared.work.Work.TheVariants.{Fetching as KeptFetching}
 use Rattle.mk_column.specs.Conditions.{blocked}
 use Rattle.mk_column.specs.AttemptsByCode.{begun_of}
 use Rattle.mk_column.specs.ColumnByCode.{Kept}

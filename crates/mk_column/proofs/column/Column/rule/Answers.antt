@@ -1,8 +1,7 @@
 use Rattle.std.proofs.Common.{◌≡◌, Some, sym, ap, subst, ◌∙◌}
 use Rattle.std.specs.Prelude.{option_map, option_copied, OnOk}
-use Rattle.mk_coord.specs.Rulings.{ruling}
 use Rattle.mk_coord.specs.declared.Ruling.TheVariants.{Fast, Learned, Propose}
-use Rattle.mk_column.specs.ColumnState.{AttemptState, attempt_of, change_attempt, shown}
+use Rattle.mk_column.specs.ColumnState.{attempt_of, change_attempt, shown}
 use Rattle.mk_column.specs.Steps.{proposing}
 use Rattle.mk_column.specs.ColumnByCode.{ColumnView}
 use Rattle.mk_column.proofs.StepLaws.{rule-state}

@@ -1,4 +1,4 @@
-use Rattle.std.proofs.Common.{◌≡◌, ◌++◌, IsSome, true, refl, sym, ap, ◌∙◌}
+use Rattle.std.proofs.Common.{◌++◌, IsSome, true, refl, sym, ap, ◌∙◌}
 use Rattle.mk_msg.specs.declared.Body.TheVariants.{Validate as ValidateBody}
 use Rattle.mk_column.specs.contracts.column.Column.{the_view}
 use Rattle.mk_column.specs.ColumnState.{to_all, send}

@@ -1,4 +1,4 @@
-use Rattle.std.proofs.Common.{◌≡◌, false, ◌≤◌, ◌^◌, true, None, Some, sym, ap, subst, ◌∙◌, refl}
+use Rattle.std.proofs.Common.{◌≡◌, false, ◌≤◌, ◌^◌, None, Some, sym, ap, subst, ◌∙◌, refl}
 use Rattle.std.specs.Prelude.{option_copied, IsSome}
 use Rattle.mk_txn.specs.declared.Stamp.{Stamp as StampType}
 use Rattle.mk_txn.specs.Stamps.{next_stamp_of}
@@ -10,7 +10,7 @@ use Rattle.mk_column.specs.declared.Step.TheVariants.{Stamp as StampStep}
 use Rattle.mk_column.specs.Conditions.{blocked}
 use Rattle.mk_column.specs.Steps.{with_txn}
 use Rattle.mk_column.specs.ClientsByCode.{kept_client, client_stamped}
-use Rattle.mk_column.specs.AttemptsByCode.{BegunView, begun_of, change_begun, on_state}
+use Rattle.mk_column.specs.AttemptsByCode.{begun_of, change_begun, on_state}
 use Rattle.mk_column.specs.ColumnByCode.{Kept}
 use Rattle.mk_column.proofs.Frames.{enabled}
 use Rattle.mk_column.proofs.StepLaws.{step-view}

@@ -1,4 +1,4 @@
-use Rattle.std.proofs.Common.{◌≡◌, sym, ap, ◌∙◌}
+use Rattle.std.proofs.Common.{sym, ap, ◌∙◌}
 use Rattle.mk_txn.specs.declared.Outcome.{Outcome}
 use Rattle.std.specs.Prelude.{Option}
 use Rattle.mk_column.specs.Steps.{taught_in}
