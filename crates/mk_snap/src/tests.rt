@@ -651,8 +651,13 @@ fn same<A: Keeping, B: Keeping>(rt: &impl Abort, seed: u32, one: &A, other: &B) 
     same_cells(rt, seed, cells_of(one)?, cells_of(other)?)
 }
 
-// Merges the seed's promises with both keepings, and tells whether they make a base.
-fn merge_both(rt: &impl Abort, alloc: Global, size: Size, seed: u32) -> Result<bool, Fail> {
+// Merges the seed's promises with both keepings, and counts commits and aborts where they make a base.
+fn merge_both(
+    rt: &impl Abort,
+    alloc: Global,
+    size: Size,
+    seed: u32,
+) -> Result<Option<(u64, u64)>, Fail> {
     let listed: Vec<Promise<Base>> = table(alloc, seed)?;
     let snapped: Vec<Promise<Snap>> = table(alloc, seed)?;
     let epoch = seed % 3 + 1;
@@ -661,14 +666,15 @@ fn merge_both(rt: &impl Abort, alloc: Global, size: Size, seed: u32) -> Result<b
     match (base, snap) {
         (Ok(base), Ok(snap)) => {
             same(rt, seed, &base, &snap)?;
+            let counts = (base.fates().commits(), base.fates().aborts());
             let base = begin_again(alloc, size, 4, &base)?;
             let snap = begin_again(alloc, size, 4, &snap)?;
             same(rt, seed, &base, &snap)?;
-            Ok(true)
+            Ok(Some(counts))
         }
         (base, snap) => {
             assert_eq!(rt; base.err(), snap.err(), "at {seed}");
-            Ok(false)
+            Ok(None)
         }
     }
 }
@@ -676,13 +682,17 @@ fn merge_both(rt: &impl Abort, alloc: Global, size: Size, seed: u32) -> Result<b
 #[test]
 fn lists_and_snapshots_agree(rt: HostRuntime) -> Result<(), Fail> {
     let size = size_of(1)?;
-    let mut merged = 0u32;
+    let mut bases = 0u64;
+    let mut commits = 0u64;
+    let mut aborts = 0u64;
     for seed in 0..200 {
-        if merge_both(&rt, rt.alloc(), size, seed)? {
-            merged = merged.saturating_add(1);
+        if let Some(counts) = merge_both(&rt, rt.alloc(), size, seed)? {
+            bases = bases.saturating_add(1);
+            commits = commits.saturating_add(counts.0);
+            aborts = aborts.saturating_add(counts.1);
         }
     }
-    assert!(rt; merged > 100);
-    assert!(rt; merged < 200);
+    assert!(rt; bases > 100 && bases < 200);
+    assert!(rt; commits > 100 && aborts > 100);
     Ok(())
 }
