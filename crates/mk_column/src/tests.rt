@@ -1,5 +1,4 @@
-ghost use Rattle.std.specs.Prelude.{◌≡◌, true, IfOk};
-ghost use Rattle.mk_column.specs.Conditions.{is_idle};
+ghost use Rattle.std.specs.Prelude.{◌≡◌, length, IfOk};
 
 use crate::{Column, ColumnError, KeyCall, Phase, ReplicaView, Step, Writes};
 use mk_cell::{Act, Answer};
@@ -7,7 +6,7 @@ use mk_merge::{Base, Fated, Keeping};
 use mk_msg::{Body, Moved, Msg, MsgKind};
 use mk_quorum::Size;
 use mk_trim::Kept;
-use mk_txn::{Known, Outcome, Stamp, Txn, TxnId, Value, Vote, WriteItem};
+use mk_txn::{Known, Marks, Outcome, Stamp, Txn, TxnId, Value, Vote, WriteItem};
 use std::alloc::Global;
 use std::process::Abort;
 use std::test::Fail;
@@ -43,12 +42,30 @@ fn column_of(
 ) -> Result<Column, Fail> {
     let size = Size::new(1).ok_or("a size")?;
     let mut column = Column::new(alloc, size, 0, &[1], 2, 1)?;
+    column.begin_round(three(alloc, first, second, third)?);
+    Ok(column)
+}
+
+fn three(
+    alloc: Global,
+    first: ReplicaView,
+    second: ReplicaView,
+    third: ReplicaView,
+) -> Result<Vec<ReplicaView>, Fail>
+    ensures { IfOk result (λ views. length views.items ≡ 3) }
+{
     let mut views = Vec::new(alloc);
     views.push(first)?;
     views.push(second)?;
     views.push(third)?;
+    Ok(views)
+}
+
+// The next round, with these replicas.
+fn next_round(rt: &impl Abort, column: &mut Column, views: Vec<ReplicaView>) {
+    assert!(rt; column.work.is_idle());
+    assert!(rt; column.size.n() as usize == views.len());
     column.begin_round(views);
-    Ok(column)
 }
 
 // The same with three replicas that serve epoch 0.
@@ -179,6 +196,9 @@ fn one_write_commits_in_nineteen_steps(rt: HostRuntime) -> Result<(), Fail> {
     assert_eq!(rt; entries.len(), 1);
     assert_eq!(rt; entries[0].vote, Some(Vote::Ok));
     assert_eq!(rt; entries[0].last, Some(Outcome::Commit));
+    refuses(&rt, &mut column, Step::Validate { id: ID }, 4);
+    refuses(&rt, &mut column, Step::Rule { id: ID }, 4);
+    refuses(&rt, &mut column, Step::Again { id: ID }, 4);
     assert_eq!(rt; column.take_log().len(), 19);
     assert_eq!(rt; column.log().len(), 0);
     Ok(())
@@ -408,5 +428,145 @@ fn a_takeover_ends_what_is_stopped(rt: HostRuntime) -> Result<(), Fail> {
     assert!(rt; column.decided(ID).is_some());
     let own = column.attempt(ID).and_then(|attempt| attempt.learned);
     assert_eq!(rt; own, None);
+    Ok(())
+}
+
+// The leader of view 2 asks for the attempt, and two replicas of epoch 1 answer.
+fn asks(rt: &impl Abort, column: &mut Column) {
+    does(rt, column, Step::Takeover { id: ID, view: 2 });
+    does(rt, column, Step::Take { number: 4 });
+    does(rt, column, Step::Take { number: 5 });
+    does(rt, column, Step::Take { number: 7 });
+    does(rt, column, Step::Take { number: 8 });
+}
+
+// A replica that serves epoch 1, whose marks cover the attempt.
+fn covering(alloc: Global) -> Result<ReplicaView, Fail> {
+    let mut marks = Marks::new(alloc);
+    marks.raise(1, 1)?;
+    let mut fates = Kept::new(alloc);
+    fates.cover(&marks)?;
+    Ok(ReplicaView {
+        phase: Phase::Serving,
+        epoch: 1,
+        fates,
+    })
+}
+
+// An attempt of epoch 0 whose Validate was sent, when two replicas have gone on to epoch 1.
+fn left_behind(
+    rt: &impl Abort,
+    alloc: Global,
+    first: ReplicaView,
+    second: ReplicaView,
+) -> Result<Column, Fail> {
+    let mut column = fresh(alloc)?;
+    stamp(rt, alloc, &mut column)?;
+    does(rt, &mut column, Step::Validate { id: ID });
+    let views = three(alloc, first, second, view(alloc, Phase::Serving, 0))?;
+    next_round(rt, &mut column, views);
+    asks(rt, &mut column);
+    Ok(column)
+}
+
+#[test]
+fn a_forgotten_outcome_teaches_nothing(rt: HostRuntime) -> Result<(), Fail> {
+    let alloc = rt.alloc();
+    let mut column = left_behind(&rt, alloc, covering(alloc)?, covering(alloc)?)?;
+    refuses(&rt, &mut column, Step::Pick { id: ID, view: 2 }, 4);
+    assert_eq!(rt; column.decided(ID), None);
+    let learned = column.attempt(ID).and_then(|attempt| attempt.learned);
+    assert_eq!(rt; learned, None);
+    let mut column = left_behind(&rt, alloc, later(alloc)?, later(alloc)?)?;
+    does(&rt, &mut column, Step::Pick { id: ID, view: 2 });
+    assert_eq!(rt; column.decided(ID), Some(Outcome::Commit));
+    Ok(())
+}
+
+#[test]
+fn a_leader_that_serves_no_more_picks_nothing(rt: HostRuntime) -> Result<(), Fail> {
+    let alloc = rt.alloc();
+    let mut column = fresh(alloc)?;
+    stamp(&rt, alloc, &mut column)?;
+    does(&rt, &mut column, Step::Validate { id: ID });
+    does(&rt, &mut column, Step::Takeover { id: ID, view: 1 });
+    let first = view(alloc, Phase::Serving, 0);
+    let third = view(alloc, Phase::Serving, 0);
+    let views = three(alloc, first, view(alloc, Phase::Paused, 0), third)?;
+    next_round(&rt, &mut column, views);
+    refuses(&rt, &mut column, Step::Pick { id: ID, view: 1 }, 3);
+    Ok(())
+}
+
+#[test]
+fn attempts_begin_up_to_the_last_place(rt: HostRuntime) -> Result<(), Fail> {
+    let alloc = rt.alloc();
+    let mut column = fresh(alloc)?;
+    for seq in 1..=16_384 {
+        begin(&rt, &mut column);
+        let id = TxnId { client: 1, seq };
+        let writes = one_write(alloc, FIVE)?;
+        does(
+            &rt,
+            &mut column,
+            Step::Stamp {
+                id,
+                clock: 10,
+                writes,
+            },
+        );
+    }
+    let begin = Step::Begin {
+        client: 1,
+        replica: 0,
+    };
+    refuses(&rt, &mut column, begin, 4);
+    Ok(())
+}
+
+// Reads the key at replica 0, which has this version of it.
+fn reads(rt: &impl Abort, column: &mut Column, key: u32, version: Stamp) {
+    does(rt, column, Step::Read { id: ID, key });
+    let call = KeyCall {
+        replica: 0,
+        key,
+        act: Act::Get,
+    };
+    let answer = Answer::Version {
+        version,
+        value: Value::Number(0),
+    };
+    does(rt, column, Step::Key { call, answer });
+}
+
+#[test]
+fn an_attempt_reads_sixteen_keys(rt: HostRuntime) -> Result<(), Fail> {
+    let alloc = rt.alloc();
+    let size = Size::new(1).ok_or("a size")?;
+    let mut column = Column::new(alloc, size, 0, &[1], 20, 1)?;
+    let first = view(alloc, Phase::Serving, 0);
+    let second = view(alloc, Phase::Serving, 0);
+    let third = view(alloc, Phase::Serving, 0);
+    column.begin_round(three(alloc, first, second, third)?);
+    begin(&rt, &mut column);
+    for key in 0..15 {
+        reads(&rt, &mut column, key, Stamp { time: 0, client: 0 });
+    }
+    let last = Stamp {
+        time: 1 << 62,
+        client: 2,
+    };
+    reads(&rt, &mut column, 15, last);
+    refuses(&rt, &mut column, Step::Read { id: ID, key: 16 }, 4);
+    refuses(&rt, &mut column, stamping(10, no_writes(alloc)), 4);
+    let mut twice = Vec::new(alloc);
+    twice.push(FIVE)?;
+    twice.push(FIVE)?;
+    refuses(&rt, &mut column, stamping(10, Writes::of(twice)), 3);
+    let mut many = Vec::new(alloc);
+    for key in 0..17 {
+        many.push(WriteItem { key, ..FIVE })?;
+    }
+    refuses(&rt, &mut column, stamping(10, Writes::of(many)), 3);
     Ok(())
 }
