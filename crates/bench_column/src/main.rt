@@ -20,8 +20,8 @@ const FEW: u32 = 4_096;
 
 const MANY: u32 = 8_192;
 
-// The runs of which the fastest counts.
-const RUNS: u32 = 5;
+// The runs of each number, of which the fastest counts.
+const RUNS: u32 = 40;
 
 // The bytes of a page of memory.
 const PAGE: u64 = 4_096;
@@ -93,16 +93,20 @@ fn run_once<R: Clock + AllocGlobal>(rt: &R, attempts: u32) -> io::Result<Run> {
     })
 }
 
-// The fastest of some runs.
-fn best_run<R: Clock + AllocGlobal>(rt: &R, attempts: u32) -> io::Result<Run> {
-    let mut best = run_once(rt, attempts)?;
+// The one that took less time.
+fn faster(one: Run, other: Run) -> Run {
+    if other.time < one.time { other } else { one }
+}
+
+// The fastest of the short runs and the fastest of the long ones, which take turns so that other work slows both.
+fn best_runs<R: Clock + AllocGlobal>(rt: &R) -> io::Result<(Run, Run)> {
+    let mut few = run_once(rt, FEW)?;
+    let mut many = run_once(rt, MANY)?;
     for _ in 1..RUNS {
-        let next = run_once(rt, attempts)?;
-        if next.time < best.time {
-            best = next;
-        }
+        few = faster(few, run_once(rt, FEW)?);
+        many = faster(many, run_once(rt, MANY)?);
     }
-    Ok(best)
+    Ok((few, many))
 }
 
 fn show<R: Print + AllocGlobal>(rt: &R, attempts: u32, run: Run, bytes: u64) -> io::Result<()> {
@@ -120,8 +124,7 @@ fn hundredths(time: Duration, of: Duration) -> u128 {
 fn measure<R: Clock + Print + Files + AllocGlobal>(rt: &R) -> io::Result<()> {
     // First, since later runs take memory that earlier ones gave back.
     let (few_bytes, many_bytes) = growth(rt)?;
-    let few = best_run(rt, FEW)?;
-    let many = best_run(rt, MANY)?;
+    let (few, many) = best_runs(rt)?;
     println!(rt; "attempts  commits    steps  steps a second  bytes an attempt")?;
     show(rt, FEW, few, few_bytes)?;
     show(rt, MANY, many, many_bytes)?;
