@@ -1,6 +1,6 @@
 -- What the tasks and the clients of a driver mean about its column.
-use Rattle.std.proofs.Common.{◌≡◌, ◌∙◌, ◌<◌, ◌≤◌, ℕ, zero, suc, ◌+◌, Bool, true, false, refl, sym, subst, ap, arith, List, [], ◌∷◌, ◌++◌, length, Option, Some, None, if◌then◌else◌}
-use Rattle.std.specs.Prelude.{slice_get, ◌==◌}
+use Rattle.std.proofs.Common.{◌≡◌, ◌⊎◌, inl, inr, ◌∙◌, ◌<◌, ◌≤◌, ℕ, zero, suc, ◌+◌, Bool, true, false, refl, sym, subst, ap, arith, List, [], ◌∷◌, ◌++◌, length, Option, Some, None, if◌then◌else◌}
+use Rattle.std.specs.Prelude.{is_some, find, slice_get, ◌==◌}
 use Rattle.std.proofs.lemmas.Bool.Decides.{nat_tests}
 use Rattle.mk_lists.specs.Among.{Each, Each-weaker}
 use Rattle.mk_lists.specs.Changed.{change, Each-change}
@@ -15,9 +15,10 @@ use Rattle.mk_driver.specs.declared.DriverState.{DriverState}
 use Rattle.mk_driver.specs.declared.Caller.{Caller}
 use Rattle.mk_driver.specs.declared.Stage.{Stage}
 use Rattle.mk_driver.specs.Keeping.{IsRising, numbers_of}
-use Rattle.mk_driver.specs.Agenda.{is_caller}
+use Rattle.mk_driver.specs.Agenda.{is_caller, trial_by}
 use Rattle.mk_driver.specs.Stages.{resting, at_stage}
 use Rattle.mk_driver_laws.proofs.ColumnMoves.{stops, validates}
+use Rattle.mk_driver_laws.proofs.Reading.{NoneReads, OneReads}
 use Rattle.mk_driver_laws.proofs.Frames.{IsGoing, IsLive, IsUnsent}
 
 -- the number is one of a message in a link of this length
@@ -78,8 +79,10 @@ BehindFits n (SettleTakeover id view) = Unit {0}
 abbrev pub Behind : ℕ → List Task → Type 0
 Behind n tasks = Each (BehindFits n) tasks
 
+-- an attempt that reads has something that was asked for
 abbrev pub FetchFits : ColumnState → List Caller → TxnId → Type 0
-FetchFits c callers id = IsGoing c id × IsUnsent c id × RestsAt id.client callers
+FetchFits c callers id =
+    IsGoing c id × IsUnsent c id × RestsAt id.client callers × (is_some (trial_by id.seq (find (is_caller id.client) callers)) ≡ true)
 
 abbrev pub ReachFits : ColumnState → List Caller → TxnId → Point → Type 0
 ReachFits c callers id point = StageFits c id point × RestsAt id.client callers
@@ -87,7 +90,7 @@ ReachFits c callers id point = StageFits c id point × RestsAt id.client callers
 -- at most one task belongs to an attempt under way, and none comes behind the turns
 abbrev pub TasksFit : ColumnState → List Caller → List Task → Type 0
 TasksFit c callers [] = Unit {0}
-TasksFit c callers (Fetch id ∷ tasks) = FetchFits c callers id × Behind (length c.link) tasks
+TasksFit c callers (Fetch id ∷ tasks) = ⊥
 TasksFit c callers (Reach id point ∷ tasks) = ReachFits c callers id point × Behind (length c.link) tasks
 TasksFit c callers (Turns place did ∷ tasks) = Behind (length c.link) tasks
 TasksFit c callers (Deliver first end ∷ tasks) = PlainFits (length c.link) (Deliver first end) × TasksFit c callers tasks
@@ -167,8 +170,7 @@ pub tasks_more : (c new : ColumnState) (old callers : List Caller) → length c.
     ((n : ℕ) → RestsAt n old → RestsAt n callers) → ((id : TxnId) → IsGoing c id → IsGoing new id) → ((id : TxnId) → IsLive c id → IsLive new id) →
     ((id : TxnId) → IsUnsent c id → IsUnsent new id) → (tasks : List Task) → TasksFit c old tasks → TasksFit new callers tasks
 tasks_more c new old callers g r going live unsent [] h = tt
-tasks_more c new old callers g r going live unsent (Fetch id ∷ tasks) h =
-    ((going id h.0.0, unsent id h.0.1, r id.client h.0.2), behind_more (length c.link) (length new.link) g tasks h.1)
+tasks_more c new old callers g r going live unsent (Fetch id ∷ tasks) h = h
 tasks_more c new old callers g r going live unsent (Reach id AfterRead ∷ tasks) h =
     (((live id h.0.0.0, unsent id h.0.0.1), r id.client h.0.1), behind_more (length c.link) (length new.link) g tasks h.1)
 tasks_more c new old callers g r going live unsent (Reach id AfterVotes ∷ tasks) h =
@@ -280,3 +282,50 @@ callers_kept c new step live unsent (x ∷ xs) s h = (head x.under_way s.0 h.0, 
         UnderWayFits c x.number u → UnderWayFits new x.number u
     head None z k = tt
     head (Some stage) z k = (k.0, stage_kept stage.id stage.reached (z stage refl k.0) k.1)
+
+-- ---- attempts that read
+
+-- where an attempt reads, its task comes first; and else none reads
+abbrev pub WholeFits : ColumnState → DriverState → List Task → Type 0
+WholeFits c d (Fetch id ∷ tasks) = FetchFits c d.callers id × OneReads id c × Behind (length c.link) tasks × DriverFits c tasks d
+WholeFits c d tasks = NoneReads c × DriverFits c tasks d
+
+pub whole_plain : (c : ColumnState) (tasks : List Task) (d : DriverState) → NoneReads c → DriverFits c tasks d → WholeFits c d tasks
+whole_plain c [] d n h = (n, h)
+whole_plain c (Fetch id ∷ tasks) d n h = absurd h.tasks_fit
+whole_plain c (Reach id point ∷ tasks) d n h = (n, h)
+whole_plain c (Turns place did ∷ tasks) d n h = (n, h)
+whole_plain c (Deliver first end ∷ tasks) d n h = (n, h)
+whole_plain c (DeliverSince sent ∷ tasks) d n h = (n, h)
+whole_plain c (Take number ∷ tasks) d n h = (n, h)
+whole_plain c (Notice id ∷ tasks) d n h = (n, h)
+whole_plain c (Resume id ∷ tasks) d n h = (n, h)
+whole_plain c (Takeover id view ∷ tasks) d n h = (n, h)
+whole_plain c (Late ∷ tasks) d n h = (n, h)
+whole_plain c (Settle id ∷ tasks) d n h = (n, h)
+whole_plain c (SettleTakeover id view ∷ tasks) d n h = (n, h)
+
+-- the first task is that of an attempt that reads
+pub record FetchFirst (c : ColumnState) (d : DriverState) (tasks : List Task) : Type 0 where
+  pub id : TxnId
+  pub rest : List Task
+  pub first : tasks ≡ Fetch id ∷ rest
+  pub fetch : FetchFits c d.callers id
+  pub one : OneReads id c
+  pub behind : Behind (length c.link) rest
+  pub driver : DriverFits c rest d
+
+pub whole_split : (c : ColumnState) (tasks : List Task) (d : DriverState) → WholeFits c d tasks → FetchFirst c d tasks ⊎ (NoneReads c × DriverFits c tasks d)
+whole_split c [] d h = inr h
+whole_split c (Fetch id ∷ tasks) d h = inl (record { id = id; rest = tasks; first = refl; fetch = h.0; one = h.1; behind = h.2; driver = h.3 })
+whole_split c (Reach id point ∷ tasks) d h = inr h
+whole_split c (Turns place did ∷ tasks) d h = inr h
+whole_split c (Deliver first end ∷ tasks) d h = inr h
+whole_split c (DeliverSince sent ∷ tasks) d h = inr h
+whole_split c (Take number ∷ tasks) d h = inr h
+whole_split c (Notice id ∷ tasks) d h = inr h
+whole_split c (Resume id ∷ tasks) d h = inr h
+whole_split c (Takeover id view ∷ tasks) d h = inr h
+whole_split c (Late ∷ tasks) d h = inr h
+whole_split c (Settle id ∷ tasks) d h = inr h
+whole_split c (SettleTakeover id view ∷ tasks) d h = inr h

@@ -1,5 +1,5 @@
 -- At every time that named steps lead to, the driver's tasks and clients mean of the column what they should.
-use Rattle.std.proofs.Common.{◌≡◌, ◌∙◌, ◌<◌, ◌≤◌, ℕ, ◌+◌, Bool, true, false, refl, sym, subst, ap, arith, List, [], ◌∷◌, map, length, Option, Some, None, if◌then◌else◌}
+use Rattle.std.proofs.Common.{inl, inr, ◌≡◌, ◌∙◌, ◌<◌, ◌≤◌, ℕ, ◌+◌, Bool, true, false, refl, sym, subst, ap, arith, List, [], ◌∷◌, map, length, Option, Some, None, if◌then◌else◌}
 use Rattle.std.specs.Prelude.{find, option_map, ◌==◌}
 use Rattle.std.specs.List.{list_any}
 use Rattle.mk_lists.specs.Among.{Each, Each-weaker}
@@ -16,6 +16,8 @@ use Rattle.mk_script.specs.declared.lines.Point.TheVariants.{Read as AfterRead, 
 use Rattle.mk_script.specs.Scripts.{ScriptParts}
 use Rattle.mk_script.specs.declared.lines.ClientLine.{ClientLine}
 use Rattle.mk_faults.specs.Fates.{rules_of}
+use Rattle.mk_cell.specs.declared.Answer.{Answer}
+use Rattle.mk_column.specs.declared.KeyCall.{KeyCall}
 use Rattle.mk_column.specs.declared.Step.{Step}
 use Rattle.mk_column.specs.declared.Step.TheVariants.{Key}
 use Rattle.mk_column.specs.ColumnState.{Setting, ColumnState, AttemptState, attempt_of, is_attempt, new_column}
@@ -35,22 +37,48 @@ use Rattle.mk_driver.specs.Keeping.{IsRising, numbers_of}
 use Rattle.mk_driver.specs.Turns.{Choice, choice}
 use Rattle.mk_driver.specs.Driven.{Standing, PastRound, IsNamed, asked_more, callers_from, client_columns_of, first_standing, lines_of_round, next_at, reset_by_line, reset_by_lines, round_at, round_ended, setting_in, standing_after, standing_at, standing_begun, standing_past, standing_through}
 use Rattle.mk_driver_laws.specs.Enabled.{IsDone, AreDone, NamedIsEnabled}
-use Rattle.mk_driver_laws.proofs.ColumnMoves.{AttemptFits, ColumnFits, column_fits}
+use Rattle.mk_driver_laws.proofs.ColumnMoves.{Moves, stays_unsent, AttemptFits, ColumnFits, column_fits}
 use Rattle.mk_driver_laws.proofs.Taking.{step_moves}
-use Rattle.mk_driver_laws.proofs.Frames.{is_live, IsLive}
-use Rattle.mk_driver_laws.proofs.DriverFits.{InLink, StageFits, UnderWayFits, CallerFits, TasksFit, DriverFits}
+use Rattle.mk_driver_laws.proofs.Frames.{link_grows, stays_going, is_live, IsLive}
+use Rattle.mk_driver_laws.proofs.DriverFits.{WholeFits, whole_plain, whole_split, behind_more, InLink, StageFits, UnderWayFits, CallerFits, TasksFit, DriverFits}
 use Rattle.mk_driver_laws.proofs.Walk.{harmless_after}
-use Rattle.mk_driver_laws.proofs.Choices.{NamedFits, choice_fits}
+use Rattle.mk_driver_laws.proofs.Named.{NamedFits}
+use Rattle.mk_driver_laws.proofs.Reading.{Reads, step_reads}
+use Rattle.mk_driver_laws.proofs.Choices.{choice_fits}
 
 -- a column and a driver with these tasks left
 pub record StandingFits (f : ℕ) (tasks : List Task) (standing : Standing) : Type 0 where
   pub column : ColumnFits f standing.column
-  pub driver : DriverFits standing.column tasks standing.driver
+  pub driver : WholeFits standing.column standing.driver tasks
 
 abbrev pub Fits : ScriptParts → Standing → Type 0
 Fits script standing = let driver = standing.driver in StandingFits script.size driver.agenda standing
 
 -- ---- a step
+
+-- a key call is answered
+key_fits : (round : Setting) (c : ColumnState) → ColumnFits round.faults c → (call : KeyCall) (answer : Answer) → blocked round c (Key call answer) ≡ None →
+    (tasks : List Task) (d : DriverState) → WholeFits c d tasks → WholeFits (column_after round c (Key call answer)) d tasks
+key_fits round c k call answer b tasks d h =
+    elim (whole_split c tasks d h) [
+      | inl f ↦ (let id = f.id in let fetch = f.fetch in let rest = f.rest in
+          subst (λ (ts : List Task). WholeFits new d ts) (sym f.first) (
+            (stays_going round.faults c new step m id refl fetch.0, stays_unsent round.faults c new step k m id refl fetch.1, fetch.2, fetch.3),
+            step_reads (λ other. other ≡ id) round c step refl f.one,
+            behind_more (length c.link) (length new.link) (link_grows round.faults c new step m) rest f.behind,
+            harmless_after round c k step ((λ i. refl), λ i u. refl) b rest d f.driver,
+          ))
+      | inr n ↦ whole_plain new tasks d (step_reads (λ i. ⊥) round c step refl n.0) (harmless_after round c k step ((λ i. refl), λ i u. refl) b tasks d n.1)
+    ]
+  where
+    step : Step
+    step = Key call answer
+
+    new : ColumnState
+    new = column_after round c step
+
+    m : Moves round.faults c new step
+    m = step_moves round c step k b
 
 step_fits : (script : ScriptParts) (views : List ReplicaView) (standing : Standing) (step : Step) → Fits script standing →
     IsNamed (next_at script (setting_in script views) standing) step → blocked (setting_in script views) standing.column step ≡ None →
@@ -68,12 +96,11 @@ step_fits script views standing step fits named b =
     chosen = choice (rules_of script) round standing.column standing.driver
 
     by : (next : Next) (d : DriverState) → NamedFits round standing.column next d → (step : Step) → IsNamed next step → blocked round standing.column step ≡ None →
-        DriverFits (column_after round standing.column step) d.agenda d
+        WholeFits (column_after round standing.column step) d d.agenda
     by (StepNext other) d h step n b =
-        subst (λ (s : Step). DriverFits (column_after round standing.column s) d.agenda d) (sym n)
+        subst (λ (s : Step). WholeFits (column_after round standing.column s) d d.agenda) (sym n)
         (h.1 (subst (λ (s : Step). blocked round standing.column s ≡ None) n b))
-    by (KeyNext call) d h (Key called answer) n b =
-        harmless_after round standing.column fits.column (Key called answer) ((λ id. refl), λ id u. refl) b d.agenda d h
+    by (KeyNext call) d h (Key called answer) n b = key_fits round standing.column fits.column called answer b d.agenda d h
     by Over d h step n b = absurd n
     by (KeyNext call) d h _ n b = absurd n
 
@@ -184,14 +211,20 @@ driver_at_end c new end d h =
     caller n None z = tt
     caller n (Some s) z = (z.0, stage s.id s.reached z.1)
 
+none_end : (xs : List AttemptState) → Reads (λ id. ⊥) (map not_reading xs)
+none_end [] = tt
+none_end (x ∷ xs) = ((λ r. cc r), none_end xs)
+
 -- where nothing is named any more, no task is left
 ended_fits : (script : ScriptParts) (views : List ReplicaView) (globals : List GlobalEntry) (standing : Standing) → Fits script standing →
     next_at script (setting_in script views) standing ≡ Over → StandingFits script.size [] (round_ended script (setting_in script views) globals standing)
 ended_fits script views globals standing fits over =
     record {
       column = end.fits script.size fits.column;
-      driver = driver_at_end standing.column (reading_ended (reset_by_lines globals standing.column)) end chosen.driver
-          (subst (λ (next : Next). NamedFits round standing.column next chosen.driver) over (choice_fits (rules_of script) round standing.column fits.column standing.driver fits.driver));
+      driver = (
+        none_end (reset_by_lines globals standing.column).attempts,
+        driver_at_end standing.column (reading_ended (reset_by_lines globals standing.column)) end chosen.driver (at_over over_fits),
+      );
     }
   where
     round : Setting
@@ -199,6 +232,12 @@ ended_fits script views globals standing fits over =
 
     chosen : Choice
     chosen = choice (rules_of script) round standing.column standing.driver
+
+    over_fits : NamedFits round standing.column Over chosen.driver
+    over_fits = subst (λ (next : Next). NamedFits round standing.column next chosen.driver) over (choice_fits (rules_of script) round standing.column fits.column standing.driver fits.driver)
+
+    at_over : NamedFits round standing.column Over chosen.driver → DriverFits standing.column [] chosen.driver
+    at_over h = h.1
 
     end : IsAtEnd standing.column (reading_ended (reset_by_lines globals standing.column))
     end = then_end standing.column (reset_by_lines globals standing.column) (reading_ended (reset_by_lines globals standing.column))
@@ -220,17 +259,18 @@ asked_numbers submissions (x ∷ xs) = ap (λ ns. x.number ∷ ns) (asked_number
 
 begun_fits : (script : ScriptParts) (number : ℕ) (standing : Standing) → StandingFits script.size [] standing → Fits script (standing_begun script number standing)
 begun_fits script number standing h =
-    let d = h.driver in
+    let d = h.driver.1 in
     let lines = lines_of_round script (round_at script number) in
+    let begun = standing_begun script number standing in
     record {
       column = h.column;
-      driver = record {
+      driver = whole_plain standing.column (map (λ number. Take number) standing.driver.held) begun.driver h.driver.0 (record {
         tasks_fit = held_fit standing.column _ standing.driver.held d.held;
         late = d.late;
         held = tt;
         callers = asked_callers standing.column lines.submissions standing.driver.callers d.callers;
         rising = subst IsRising (sym (asked_numbers lines.submissions standing.driver.callers)) d.rising;
-      };
+      });
     }
 
 -- ---- the first round
@@ -277,13 +317,16 @@ first_fits script c =
         work = tt;
         below = λ id a e. absurd (cc e);
       };
-      driver = record {
-        tasks_fit = tt;
-        late = tt;
-        held = tt;
-        callers = first_callers (new_column script.size (clients_of c 1 (client_columns_of script))) c 1 script.clients;
-        rising = first_rising c 1 script.clients;
-      };
+      driver = (
+        tt,
+        record {
+          tasks_fit = tt;
+          late = tt;
+          held = tt;
+          callers = first_callers (new_column script.size (clients_of c 1 (client_columns_of script))) c 1 script.clients;
+          rising = first_rising c 1 script.clients;
+        },
+      );
     }
 
 past_fits : (script : ScriptParts) (c number : ℕ) (standing : Standing) (rounds : List PastRound) → StandingFits script.size [] standing →

@@ -10,36 +10,33 @@ use Rattle.mk_txn.specs.Transactions.{same_id}
 use Rattle.mk_msg.specs.declared.Msg.{Msg}
 use Rattle.mk_msg.specs.Links.{message}
 use Rattle.mk_script.specs.declared.lines.Point.{Point}
-use Rattle.mk_script.specs.declared.lines.Point.TheVariants.{Read as AfterRead}
 use Rattle.mk_script.specs.declared.lines.Fate.{Fate}
 use Rattle.mk_script.specs.declared.lines.Fate.TheVariants.{Deliver as DeliverFate, Lose, Twice, Late as LateFate, NextRound}
 use Rattle.mk_faults.specs.Fates.{RuleLines, fate_at}
 use Rattle.mk_column.specs.declared.Step.{Step}
-use Rattle.mk_column.specs.declared.Step.TheVariants.{Read, Stamp, Validate, Take as TakeStep, Rule, Again, Takeover as TakeoverStep, Pick, Stop}
+use Rattle.mk_column.specs.declared.Step.TheVariants.{Validate, Take as TakeStep, Rule, Again, Takeover as TakeoverStep, Pick, Stop}
 use Rattle.mk_column.specs.ColumnState.{Setting, ColumnState, AttemptState, attempt_of, numbers_from}
 use Rattle.mk_column.specs.Conditions.{blocked, conditions, is_idle}
 use Rattle.mk_column.specs.Steps.{column_after}
 use Rattle.mk_driver.specs.declared.DriverState.{DriverState}
 use Rattle.mk_driver.specs.declared.Part.{Part}
 use Rattle.mk_driver.specs.declared.Task.{Task}
-use Rattle.mk_driver.specs.declared.Task.TheVariants.{Deliver, DeliverSince, Take, Fetch, Reach, Late, Settle, SettleTakeover}
+use Rattle.mk_driver.specs.declared.Task.TheVariants.{Deliver, DeliverSince, Take, Late, Settle, SettleTakeover}
 use Rattle.mk_driver.specs.declared.Caller.{Caller}
-use Rattle.mk_driver.specs.declared.Request.{Request}
 use Rattle.mk_driver.specs.Keeping.{IsRising}
 use Rattle.mk_driver.specs.Agenda.{Worked, is_caller, change_caller, in_order, with_late, with_late_by, with_held}
 use Rattle.mk_driver.specs.Agenda.Worked.{Quiet, Names}
 use Rattle.mk_driver.specs.Delivery.{follow_ups, taking, taking_by, by_fate, delivering, delivering_from, taking_late, done_with, tried_again, noticed}
 use Rattle.mk_driver.specs.Settling.{was_validated, settle_by, settle_takeover_by, takeover_by, resume_with, resume_if, resume_by}
-use Rattle.mk_driver.specs.Stages.{at_stage, fetch_by, fetching, stopping, reach_by}
-use Rattle.mk_client.specs.Computed.{writes_of}
-use Rattle.mk_client.specs.Wanted.{next_wanted}
+use Rattle.mk_driver.specs.Stages.{at_stage, stopping, reach_by}
 use Rattle.mk_driver_laws.specs.Enabled.{IsSure}
 use Rattle.mk_driver_laws.proofs.Lookups.{same_id-tells, passes-at, and_both}
 use Rattle.mk_driver_laws.proofs.Conditions.{none_fails}
 use Rattle.mk_driver_laws.proofs.ColumnMoves.{WasSent, stops, validates, ColumnFits, Moves, stays_unsent}
 use Rattle.mk_driver_laws.proofs.Taking.{step_moves}
-use Rattle.mk_driver_laws.proofs.Frames.{is_going, IsUnsent, link_grows, stays_going, stays_live, stamped_live}
-use Rattle.mk_driver_laws.proofs.DriverFits.{InLink, Rests, RestsAt, PlainFits, Behind, FetchFits, ReachFits, DriverFits, behind_fit, plain_front, behind_more, numbers_more, tasks_more, callers_same, rests_same, numbers_same, callers_at, Spared, callers_kept}
+use Rattle.mk_driver_laws.proofs.Reading.{NoneReads, begins, step_reads}
+use Rattle.mk_driver_laws.proofs.Frames.{is_going, IsUnsent, link_grows, stays_going, stays_live}
+use Rattle.mk_driver_laws.proofs.DriverFits.{WholeFits, whole_plain, InLink, Rests, RestsAt, PlainFits, Behind, ReachFits, DriverFits, behind_fit, plain_front, behind_more, numbers_more, tasks_more, callers_same, rests_same, numbers_same, callers_at, Spared, callers_kept}
 
 some_at : {X : Type 0} (xs : List X) (place : ℕ) → place < length xs → is_some (slice_get xs place) ≡ true
 some_at [] place h = absurd (omega (arith, h))
@@ -84,7 +81,31 @@ module _ (round : Setting) (c : ColumnState) (k : ColumnFits round.faults c) whe
       each_all [] = tt
       each_all (x ∷ xs) = ((λ stage e o. (h.0 stage.id, h.1 stage.id)), each_all xs)
 
-module _ (rules : RuleLines) (round : Setting) (c : ColumnState) (k : ColumnFits round.faults c) (idle : is_idle c.work ≡ true) where
+  -- a step of an attempt of a client of which none is under way
+  pub own_after : (step : Step) (id : TxnId) → ((other : TxnId) → (stops step other ≡ false) ⊎ (other ≡ id)) → ((other : TxnId) → (validates step other ≡ false) ⊎ (other ≡ id)) →
+      blocked round c step ≡ None → (tasks : List Task) (d : DriverState) → Behind (length c.link) tasks → RestsAt id.client d.callers → DriverFits c tasks d → DriverFits (Stepped step) tasks d
+  own_after step id s v b tasks d behind rests fits =
+      let m = moves_there step b in
+      let grows = link_grows round.faults c (Stepped step) step m in
+      record {
+        tasks_fit = behind_fit (Stepped step) d.callers tasks (behind_more (length c.link) (length (Stepped step).link) grows tasks behind);
+        late = numbers_more (length c.link) (length (Stepped step).link) grows d.late fits.late;
+        held = numbers_more (length c.link) (length (Stepped step).link) grows d.held fits.held;
+        callers = callers_kept c (Stepped step) step (λ i. stays_live round.faults c (Stepped step) step m i) (λ i. stays_unsent round.faults c (Stepped step) step k m i) d.callers
+            (Each-weaker (Rests id.client) (Spared c step) spared d.callers rests) fits.callers;
+        rising = fits.rising;
+      }
+    where
+      spared : (x : Caller) → Rests id.client x → Spared c step x
+      spared x r stage e o = (
+        elim (s stage.id) [ inl q ↦ q | inr q ↦ absurd (busy q) ],
+        λ u. elim (v stage.id) [ inl q ↦ q | inr q ↦ absurd (busy q) ],
+      )
+        where
+          busy : stage.id ≡ id → ⊥
+          busy q = let own : x.number ≡ id.client = sym o ∙ ap (λ (i : TxnId). i.client) q in cc (sym e ∙ r own)
+
+module _ (rules : RuleLines) (round : Setting) (c : ColumnState) (k : ColumnFits round.faults c) (idle : is_idle c.work ≡ true) (none : NoneReads c) where
   -- the column after a step
   abbrev pub After : Step → ColumnState
   After step = column_after round c step
@@ -101,40 +122,22 @@ module _ (rules : RuleLines) (round : Setting) (c : ColumnState) (k : ColumnFits
   -- a step of an attempt of a client of which none is under way
   pub after_own : (step : Step) (id : TxnId) → ((other : TxnId) → (stops step other ≡ false) ⊎ (other ≡ id)) → ((other : TxnId) → (validates step other ≡ false) ⊎ (other ≡ id)) →
       blocked round c step ≡ None → (tasks : List Task) (d : DriverState) → Behind (length c.link) tasks → RestsAt id.client d.callers → DriverFits c tasks d → DriverFits (After step) tasks d
-  after_own step id s v b tasks d behind rests fits =
-      let m = moved step b in
-      let grows = link_grows round.faults c (After step) step m in
-      record {
-        tasks_fit = behind_fit (After step) d.callers tasks (behind_more (length c.link) (length (After step).link) grows tasks behind);
-        late = numbers_more (length c.link) (length (After step).link) grows d.late fits.late;
-        held = numbers_more (length c.link) (length (After step).link) grows d.held fits.held;
-        callers = callers_kept c (After step) step (λ i. stays_live round.faults c (After step) step m i) (λ i. stays_unsent round.faults c (After step) step k m i) d.callers
-            (Each-weaker (Rests id.client) (Spared c step) spared d.callers rests) fits.callers;
-        rising = fits.rising;
-      }
-    where
-      spared : (x : Caller) → Rests id.client x → Spared c step x
-      spared x r stage e o = (
-        elim (s stage.id) [ inl q ↦ q | inr q ↦ absurd (busy q) ],
-        λ u. elim (v stage.id) [ inl q ↦ q | inr q ↦ absurd (busy q) ],
-      )
-        where
-          busy : stage.id ≡ id → ⊥
-          busy q = let own : x.number ≡ id.client = sym o ∙ ap (λ (i : TxnId). i.client) q in cc (sym e ∙ r own)
+  after_own step id s v b tasks d behind rests fits = own_after round c k step id s v b tasks d behind rests fits
 
   -- what comes of a task
   abbrev pub WorkedFits : List Task → Worked → Type 0
   WorkedFits tasks (Quiet d) = (d.agenda ≡ tasks) × DriverFits c tasks d
-  WorkedFits tasks (Names step after d) = IsSure round c step × (blocked round c step ≡ None → DriverFits (After step) (after ++ d.agenda) d)
+  WorkedFits tasks (Names step after d) = IsSure round c step × (blocked round c step ≡ None → WholeFits (After step) d (after ++ d.agenda))
 
   -- plain tasks in front
   pub front : (after : List Task) (d : DriverState) → Each (PlainFits (length c.link)) after → DriverFits c d.agenda d → DriverFits c (after ++ d.agenda) d
   front after d a fits =
       record { tasks_fit = plain_front c d.callers after d.agenda a fits.tasks_fit; late = fits.late; held = fits.held; callers = fits.callers; rising = fits.rising }
 
-  pub plain_named : (tasks : List Task) (step : Step) (after : List Task) (d : DriverState) → IsHarmless step → IsSure round c step → Each (PlainFits (length c.link)) after →
+  pub plain_named : (tasks : List Task) (step : Step) (after : List Task) (d : DriverState) → IsHarmless step → begins step ≡ false → IsSure round c step → Each (PlainFits (length c.link)) after →
       DriverFits c d.agenda d → WorkedFits tasks (Names step after d)
-  plain_named tasks step after d h sure a fits = (sure, λ b. after_harmless step h b (after ++ d.agenda) d (front after d a fits))
+  plain_named tasks step after d h q sure a fits =
+      (sure, λ b. whole_plain (After step) (after ++ d.agenda) d (step_reads (λ i. ⊥) round c step q none) (after_harmless step h b (after ++ d.agenda) d (front after d a fits)))
 
   -- ---- messages
 
@@ -144,8 +147,8 @@ module _ (rules : RuleLines) (round : Setting) (c : ColumnState) (k : ColumnFits
   taking_fits : (tasks : List Task) (number : ℕ) (msg : Option Msg) (after : List Task) (d : DriverState) → InLink (length c.link) number → Each (PlainFits (length c.link)) after →
       DriverFits c d.agenda d → WorkedFits tasks (taking_by c number msg after d)
   taking_fits tasks number (Some msg) after d h a fits =
-      plain_named tasks (TakeStep number) (follow_ups c msg.id ++ after) d ((λ id. refl), λ id u. refl) (takes number h) (tt, (tt, a)) fits
-  taking_fits tasks number None after d h a fits = plain_named tasks (TakeStep number) after d ((λ id. refl), λ id u. refl) (takes number h) a fits
+      plain_named tasks (TakeStep number) (follow_ups c msg.id ++ after) d ((λ id. refl), λ id u. refl) refl (takes number h) (tt, (tt, a)) fits
+  taking_fits tasks number None after d h a fits = plain_named tasks (TakeStep number) after d ((λ id. refl), λ id u. refl) refl (takes number h) a fits
 
   in_order_fits : (n number : ℕ) (xs : List ℕ) → InLink n number → Each (InLink n) xs → Each (InLink n) (in_order number xs)
   in_order_fits n number [] h q = (h, tt)
@@ -237,19 +240,19 @@ module _ (rules : RuleLines) (round : Setting) (c : ColumnState) (k : ColumnFits
 
   pub settle_fits : (tasks : List Task) (id : TxnId) (b : Option ℕ) (d : DriverState) → blocked round c (Rule id) ≡ b → Done tasks d → WorkedFits tasks (settle_by c id b d)
   settle_fits tasks id None d e g =
-      plain_named tasks (Rule id) (follow_ups c id ++ Settle id ∷ []) d ((λ i. refl), λ i u. refl) e (tt, (tt, (tt, tt))) (at_agenda tasks d g)
+      plain_named tasks (Rule id) (follow_ups c id ++ Settle id ∷ []) d ((λ i. refl), λ i u. refl) refl e (tt, (tt, (tt, tt))) (at_agenda tasks d g)
   settle_fits tasks id (Some condition) d e g = g
 
   pub settle_takeover_fits : (tasks : List Task) (id : TxnId) (view : ℕ) (b : Option ℕ) (d : DriverState) → blocked round c (Pick id view) ≡ b → Done tasks d →
       WorkedFits tasks (settle_takeover_by c id view b d)
   settle_takeover_fits tasks id view None d e g =
-      plain_named tasks (Pick id view) (DeliverSince (length c.link) ∷ (SettleTakeover id view ∷ [])) d ((λ i. refl), λ i u. refl) e (tt, (tt, tt)) (at_agenda tasks d g)
+      plain_named tasks (Pick id view) (DeliverSince (length c.link) ∷ (SettleTakeover id view ∷ [])) d ((λ i. refl), λ i u. refl) refl e (tt, (tt, tt)) (at_agenda tasks d g)
   settle_takeover_fits tasks id view (Some condition) d e g = g
 
   pub takeover_fits : (tasks : List Task) (id : TxnId) (view : ℕ) (b : Option ℕ) (d : DriverState) → blocked round c (TakeoverStep id view) ≡ b → Done tasks d →
       WorkedFits tasks (takeover_by c id view b d)
   takeover_fits tasks id view None d e g =
-      plain_named tasks (TakeoverStep id view) (DeliverSince (length c.link) ∷ (SettleTakeover id view ∷ [])) d ((λ i. refl), λ i u. refl) e (tt, (tt, tt)) (at_agenda tasks d g)
+      plain_named tasks (TakeoverStep id view) (DeliverSince (length c.link) ∷ (SettleTakeover id view ∷ [])) d ((λ i. refl), λ i u. refl) refl e (tt, (tt, tt)) (at_agenda tasks d g)
   takeover_fits tasks id view (Some condition) d e g = g
 
   -- ---- resuming
@@ -257,7 +260,7 @@ module _ (rules : RuleLines) (round : Setting) (c : ColumnState) (k : ColumnFits
   resume_sent_fits : (tasks : List Task) (id : TxnId) (a : AttemptState) (o : Option Outcome) (d : DriverState) → attempt_of c id ≡ Some a → a.coord.proposed ≡ o →
       WasSent c.link id → not a.stopped ≡ true → is_none a.coord.learned ≡ true → Done tasks d → WorkedFits tasks (resume_with c id o d)
   resume_sent_fits tasks id a (Some outcome) d e o w s l g =
-      plain_named tasks (Again id) (DeliverSince (length c.link) ∷ (Settle id ∷ [])) d ((λ i. refl), λ i u. refl)
+      plain_named tasks (Again id) (DeliverSince (length c.link) ∷ (Settle id ∷ [])) d ((λ i. refl), λ i u. refl) refl
       (none_fails 1 (conditions round c (Again id)) (
         idle,
         (
@@ -270,7 +273,7 @@ module _ (rules : RuleLines) (round : Setting) (c : ColumnState) (k : ColumnFits
       ))
       (tt, (tt, tt)) (at_agenda tasks d g)
   resume_sent_fits tasks id a None d e o w s l g =
-      plain_named tasks (Validate id) (DeliverSince (length c.link) ∷ (Settle id ∷ [])) d ((λ i. refl), harmless)
+      plain_named tasks (Validate id) (DeliverSince (length c.link) ∷ (Settle id ∷ [])) d ((λ i. refl), harmless) refl
       (none_fails 1 (conditions round c (Validate id)) (
         idle,
         (
@@ -309,68 +312,15 @@ module _ (rules : RuleLines) (round : Setting) (c : ColumnState) (k : ColumnFits
           three false q r z = absurd (cc z)
       by false t = g
 
-  -- ---- fetching and stop lines
-
-  fetch_by_fits : (tasks : List Task) (id : TxnId) (a : AttemptState) (request : Request) (key : Option ℕ) (d : DriverState) → Done tasks d → Behind (length c.link) tasks →
-      FetchFits c d.callers id → WorkedFits tasks (fetch_by id a.reads request key d)
-  fetch_by_fits tasks id a request (Some key) d g behind fetch = (
-    tt,
-    λ b. subst (λ (ts : List Task). DriverFits (After (Read id key)) (Fetch id ∷ ts) d) (sym g.0)
-        (let fits = after_own (Read id key) id (λ i. inl refl) (λ i. inl refl) b tasks d behind fetch.2 g.1 in
-        let m = moved (Read id key) b in
-        record {
-          tasks_fit = (
-            (
-              stays_going round.faults c (After (Read id key)) (Read id key) m id refl fetch.0,
-              stays_unsent round.faults c (After (Read id key)) (Read id key) k m id refl fetch.1,
-              fetch.2,
-            ),
-            behind_more (length c.link) (length (After (Read id key)).link) (link_grows round.faults c (After (Read id key)) (Read id key) m) tasks behind,
-          );
-          late = fits.late;
-          held = fits.held;
-          callers = fits.callers;
-          rising = fits.rising;
-        }),
-  )
-  fetch_by_fits tasks id a request None d g behind fetch = (
-    tt,
-    λ b. subst (λ (ts : List Task). DriverFits (After stamp) (Reach id AfterRead ∷ ts) d) (sym g.0)
-        (let fits = after_own stamp id (λ i. inl refl) (λ i. inl refl) b tasks d behind fetch.2 g.1 in
-        let m = moved stamp b in
-        record {
-          tasks_fit = (
-            (
-              (
-                stamped_live round c id request.clock (writes_of request.items a.reads) b fetch.0,
-                stays_unsent round.faults c (After stamp) stamp k m id refl fetch.1,
-              ),
-              fetch.2,
-            ),
-            behind_more (length c.link) (length (After stamp).link) (link_grows round.faults c (After stamp) stamp m) tasks behind,
-          );
-          late = fits.late;
-          held = fits.held;
-          callers = fits.callers;
-          rising = fits.rising;
-        }),
-  )
-    where
-      stamp : Step
-      stamp = Stamp id request.clock (writes_of request.items a.reads)
-
-  pub fetch_fits : (tasks : List Task) (id : TxnId) (o : Option AttemptState) (request : Option Request) (d : DriverState) → Done tasks d → Behind (length c.link) tasks →
-      FetchFits c d.callers id → WorkedFits tasks (fetching id o request d)
-  fetch_fits tasks id (Some a) (Some request) d g behind fetch = fetch_by_fits tasks id a request (next_wanted request.items a.reads) d g behind fetch
-  fetch_fits tasks id (Some a) None d g behind fetch = g
-  fetch_fits tasks id None request d g behind fetch = g
+  -- ---- stop lines
 
   stop_fits : (tasks : List Task) (id : TxnId) (b : Option ℕ) (d : DriverState) → blocked round c (Stop id) ≡ b → Done tasks d → Behind (length c.link) tasks →
       RestsAt id.client d.callers → WorkedFits tasks (stopping id b d)
   stop_fits tasks id None d e g behind rests = (
     e,
-    λ b. subst (λ (ts : List Task). DriverFits (After (Stop id)) ts d) (sym g.0)
-        (after_own (Stop id) id other (λ i. inl refl) b tasks d behind rests g.1),
+    λ b. whole_plain (After (Stop id)) d.agenda d (step_reads (λ i. ⊥) round c (Stop id) refl none)
+        (subst (λ (ts : List Task). DriverFits (After (Stop id)) ts d) (sym g.0)
+        (after_own (Stop id) id other (λ i. inl refl) b tasks d behind rests g.1)),
   )
     where
       other : (i : TxnId) → (same_id id i ≡ false) ⊎ (i ≡ id)

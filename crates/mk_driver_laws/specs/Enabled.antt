@@ -1,5 +1,5 @@
 -- That the step which the driver's turns name is enabled.
-use Rattle.std.specs.Prelude.{◌≡◌, ◌≤◌, ℕ, ◌+◌, List, [], ◌∷◌, length, None}
+use Rattle.std.specs.Prelude.{◌≡◌, ◌⊎◌, Some, ◌≤◌, ℕ, ◌+◌, List, [], ◌∷◌, length, None}
 use Rattle.mk_quorum.specs.Sizes.{members}
 use Rattle.mk_merge.specs.declared.ReplicaView.{ReplicaView}
 use Rattle.mk_script.specs.Scripts.{ScriptParts}
@@ -30,14 +30,17 @@ AreDone script c number standing (past ∷ rounds) =
 
 -- the rounds that are past and the log so far were done in a column of this script
 pub record HasCome (script : ScriptParts) (c : ℕ) (rounds : List PastRound) (views : List ReplicaView) (log : List Step) : Type 0 where
-  pub views_fit : length views ≤ members script.size
   pub past : AreDone script c 0 (first_standing script c) rounds
   pub done : IsDone script (setting_in script views) (standing_past script c 0 (first_standing script c) rounds) log
 
--- the step is enabled, but for a Begin, Unread, Read or Stamp, of which nothing is said
+-- The step is enabled. Of a Begin and an Unread the fourth condition is left open, that its client has a place left, and an
+-- Unread wants no more views than there are replicas. Of a Read or Stamp nothing is said.
 abbrev pub IsSure : Setting → ColumnState → Step → Type 0
-IsSure round column (Begin client replica) = Unit {0}
-IsSure round column (Unread client) = Unit {0}
+IsSure round column (Begin client replica) =
+    (blocked round column (Begin client replica) ≡ None) ⊎ (blocked round column (Begin client replica) ≡ Some 4)
+IsSure round column (Unread client) =
+    length round.views ≤ members round.faults →
+    (blocked round column (Unread client) ≡ None) ⊎ (blocked round column (Unread client) ≡ Some 4)
 IsSure round column (Read id key) = Unit {0}
 IsSure round column (Stamp id clock writes) = Unit {0}
 IsSure round column step = blocked round column step ≡ None

@@ -3,7 +3,7 @@
 
 ghost use Rattle.mk_driver_laws.specs.Enabled.{NamedIsEnabled};
 
-/// Whatever script, finished rounds and log: the step that the turns name is enabled, as far as `IsSure` says.
+/// Whatever the script, the rounds that are past and the log so far: the step that the turns name is enabled, as `IsSure` says.
 pub fn named_is_enabled()
     ensures { NamedIsEnabled }
 {}
