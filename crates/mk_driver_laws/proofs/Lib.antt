@@ -1,0 +1,17 @@
+pub mod Lookups
+pub mod Conditions
+pub mod ColumnMoves
+pub mod StepParts
+pub mod Replies
+pub mod ColumnSteps
+pub mod Taking
+pub mod Frames
+pub mod Reading
+pub mod DriverFits
+pub mod Walk
+pub mod Named
+pub mod Fetching
+pub mod Beginnings
+pub mod ClientTurns
+pub mod Choices
+pub mod Standing

@@ -1,0 +1,53 @@
+-- That the step which the driver's turns name is enabled.
+use Rattle.std.specs.Prelude.{◌≡◌, ◌⊎◌, Some, ◌≤◌, ℕ, ◌+◌, List, [], ◌∷◌, length, None}
+use Rattle.mk_quorum.specs.Sizes.{members}
+use Rattle.mk_merge.specs.declared.ReplicaView.{ReplicaView}
+use Rattle.mk_script.specs.Scripts.{ScriptParts}
+use Rattle.mk_history.specs.Histories.{log_of}
+use Rattle.mk_column.specs.declared.Step.{Step}
+use Rattle.mk_column.specs.declared.Step.TheVariants.{Begin, Unread, Read, Stamp}
+use Rattle.mk_column.specs.ColumnState.{Setting, ColumnState}
+use Rattle.mk_column.specs.Conditions.{blocked}
+use Rattle.mk_driver.specs.declared.Next.TheVariants.{Step as StepNext, Over}
+use Rattle.mk_driver.specs.Driven.{Standing, PastRound, IsNamed, first_standing, next_at, round_ended, setting_in, standing_after, standing_at, standing_begun, standing_past, standing_through, turn}
+
+-- each step of a log was named in its turn, and was enabled
+abbrev pub IsDone : ScriptParts → Setting → Standing → List Step → Type 0
+IsDone script round standing [] = Unit {0}
+IsDone script round standing (step ∷ steps) =
+    IsNamed (next_at script round standing) step × (blocked round standing.column step ≡ None)
+    × IsDone script round (standing_after script round standing step) steps
+
+-- so was each of these rounds, from this one on, to its end, where nothing was named any more
+abbrev pub AreDone : ScriptParts → ℕ → ℕ → Standing → List PastRound → Type 0
+AreDone script c number standing [] = Unit {0}
+AreDone script c number standing (past ∷ rounds) =
+    let round = setting_in script past.views in
+    let begun = standing_begun script number standing in
+    let last = standing_through script round begun (log_of past.round c) in
+    IsDone script round begun (log_of past.round c) × (next_at script round last ≡ Over)
+    × AreDone script c (number + 1) (round_ended script round past.round.globals last) rounds
+
+-- the rounds that are past and the log so far were done in a column of this script
+pub record HasCome (script : ScriptParts) (c : ℕ) (rounds : List PastRound) (views : List ReplicaView) (log : List Step) : Type 0 where
+  pub past : AreDone script c 0 (first_standing script c) rounds
+  pub done : IsDone script (setting_in script views) (standing_past script c 0 (first_standing script c) rounds) log
+
+-- The step is enabled. Of a Begin and an Unread the fourth condition is left open, that its client has a place left, and an
+-- Unread wants no more views than there are replicas. Of a Read or Stamp nothing is said.
+abbrev pub IsSure : Setting → ColumnState → Step → Type 0
+IsSure round column (Begin client replica) =
+    (blocked round column (Begin client replica) ≡ None) ⊎ (blocked round column (Begin client replica) ≡ Some 4)
+IsSure round column (Unread client) =
+    length round.views ≤ members round.faults →
+    (blocked round column (Unread client) ≡ None) ⊎ (blocked round column (Unread client) ≡ Some 4)
+IsSure round column (Read id key) = Unit {0}
+IsSure round column (Stamp id clock writes) = Unit {0}
+IsSure round column step = blocked round column step ≡ None
+
+-- wherever the turns name a step, it is enabled
+abbrev pub NamedIsEnabled : Type 0
+NamedIsEnabled =
+    (script : ScriptParts) (c : ℕ) (rounds : List PastRound) (views : List ReplicaView) (log : List Step) →
+    HasCome script c rounds views log → (step : Step) → turn script c rounds views log ≡ StepNext step →
+    IsSure (setting_in script views) (let standing = standing_at script c rounds views log in standing.column) step

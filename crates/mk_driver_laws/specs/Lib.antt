@@ -1,0 +1,2 @@
+-- The named step is enabled.
+pub mod Enabled
