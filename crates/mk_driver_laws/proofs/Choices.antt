@@ -162,19 +162,19 @@ pub choice_fits : (rules : RuleLines) (round : Setting) (c : ColumnState) → Co
     ChoiceFits round c (choice rules round c d)
 choice_fits rules round c k d h = by (wanted c.work) refl
   where
-    fetches : (tasks : List Task) → FetchFirst c d tasks → ChoiceFits round c (in_agenda rules round c (in_parts rules round c d.parts) tasks d)
-    fetches tasks f =
+    fetches : (tasks : List Task) → is_idle c.work ≡ true → FetchFirst c d tasks → ChoiceFits round c (in_agenda rules round c (in_parts rules round c d.parts) tasks d)
+    fetches tasks idle f =
         let rest = f.rest in
         let id = f.id in
         let fetch = f.fetch in
         subst (λ (ts : List Task). ChoiceFits round c (in_agenda rules round c (in_parts rules round c d.parts) ts d)) (sym f.first)
-        (fetch_fits round c k id rest f.behind f.one (attempt_of c id) (trial_of id (with_agenda rest d)) (with_agenda rest d) (in_agenda rules round c (in_parts rules round c d.parts) rest) refl
+        (fetch_fits round c k id rest f.behind f.one idle (attempt_of c id) (trial_of id (with_agenda rest d)) (with_agenda rest d) (in_agenda rules round c (in_parts rules round c d.parts) rest) refl
         fetch.3 refl (redrive c rest d rest d.parts f.driver) fetch)
 
     by : (o : Option KeyCall) → wanted c.work ≡ o → ChoiceFits round c (unless_wanted rules round c o d)
     by (Some call) e = h
     by None e =
         elim (whole_split c d.agenda d h) [
-          | inl f ↦ fetches d.agenda f
+          | inl f ↦ fetches d.agenda (idle_by c.link c.work k.work e) f
           | inr n ↦ agenda_fits rules round c k (idle_by c.link c.work k.work e) n.0 d n.1
         ]

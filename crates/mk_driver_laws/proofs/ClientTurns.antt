@@ -36,7 +36,7 @@ use Rattle.mk_driver_laws.proofs.Conditions.{none_fails}
 use Rattle.mk_driver_laws.proofs.ColumnMoves.{stops, validates, ColumnFits, stays_unsent}
 use Rattle.mk_driver_laws.proofs.Beginnings.{begin_sure, unread_sure}
 use Rattle.mk_driver_laws.proofs.Reading.{NoneReads, begins, step_reads, begun_reads}
-use Rattle.mk_driver_laws.proofs.Frames.{is_going, is_live, IsGoing, IsLive, IsUnsent, link_grows, stays_live, begun_going, begun_unsent}
+use Rattle.mk_driver_laws.proofs.Frames.{begun_reading, is_going, is_live, IsGoing, IsLive, IsUnsent, link_grows, stays_live, begun_going, begun_unsent}
 use Rattle.mk_driver_laws.proofs.DriverFits.{WholeFits, whole_plain, StageFits, UnderWayFits, RestsAt, Behind, TasksFit, DriverFits, behind_fit, behind_more, numbers_same, rests_left, rests_same, callers_left, caller_at, rests_there}
 use Rattle.mk_driver_laws.proofs.Walk.{After, Done, moved, after_own, same_callers}
 
@@ -278,6 +278,7 @@ module _ (rules : RuleLines) (round : Setting) (c : ColumnState) (k : ColumnFits
             stays_unsent round.faults c new step k (moved rules round c k idle none step b) id refl (begun_unsent round.faults c k caller.number client e),
             still,
             trial client.next_seq,
+            begun_reading round c k caller.number replica client e,
           ),
           begun_reads round c caller.number replica client e none,
           (tt, later step b),

@@ -19,7 +19,7 @@ use Rattle.mk_driver.specs.Agenda.{is_caller, trial_by}
 use Rattle.mk_driver.specs.Stages.{resting, at_stage}
 use Rattle.mk_driver_laws.proofs.ColumnMoves.{stops, validates}
 use Rattle.mk_driver_laws.proofs.Reading.{NoneReads, OneReads}
-use Rattle.mk_driver_laws.proofs.Frames.{IsGoing, IsLive, IsUnsent}
+use Rattle.mk_driver_laws.proofs.Frames.{IsReading, IsGoing, IsLive, IsUnsent}
 
 -- the number is one of a message in a link of this length
 abbrev pub InLink : ℕ → ℕ → Type 0
@@ -82,7 +82,7 @@ Behind n tasks = Each (BehindFits n) tasks
 -- an attempt that reads has something that was asked for
 abbrev pub FetchFits : ColumnState → List Caller → TxnId → Type 0
 FetchFits c callers id =
-    IsGoing c id × IsUnsent c id × RestsAt id.client callers × (is_some (trial_by id.seq (find (is_caller id.client) callers)) ≡ true)
+    IsGoing c id × IsUnsent c id × RestsAt id.client callers × (is_some (trial_by id.seq (find (is_caller id.client) callers)) ≡ true) × IsReading c id
 
 abbrev pub ReachFits : ColumnState → List Caller → TxnId → Point → Type 0
 ReachFits c callers id point = StageFits c id point × RestsAt id.client callers

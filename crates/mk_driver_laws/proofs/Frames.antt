@@ -5,17 +5,22 @@ use Rattle.std.specs.List.{list_any}
 use Rattle.std.proofs.lemmas.List.{length-append}
 use Rattle.mk_lists.specs.Changed.{change}
 use Rattle.mk_txn.specs.declared.TxnId.{TxnId}
+use Rattle.mk_txn.specs.Transactions.{Transaction}
 use Rattle.mk_txn.specs.declared.Stamp.{Stamp as StampType}
 use Rattle.mk_txn.specs.declared.WriteItem.{WriteItem}
 use Rattle.mk_txn.specs.Stamps.{next_stamp_of}
 use Rattle.mk_msg.specs.declared.Msg.{Msg}
 use Rattle.mk_quorum.specs.Slots.{passes}
+use Rattle.mk_cell.specs.declared.Answer.{Answer}
+use Rattle.mk_valid.specs.Checks.{KeyAct}
+use Rattle.mk_valid.specs.Validations.{ValidationState, next_act, after_answer}
+use Rattle.mk_column.specs.declared.KeyCall.{KeyCall}
 use Rattle.mk_column.specs.declared.Step.{Step}
-use Rattle.mk_column.specs.declared.Step.TheVariants.{Begin, Stamp}
+use Rattle.mk_column.specs.declared.Step.TheVariants.{Begin, Stamp, Read, Key}
 use Rattle.mk_column.specs.ColumnState.{Setting, ColumnState, AttemptState, ClientState, Work, attempt_of, client_of, is_attempt, is_client}
 use Rattle.mk_column.specs.ColumnState.Work.{Idle, Fetching, Validating, Finishing}
 use Rattle.mk_column.specs.Conditions.{blocked, conditions, is_idle, wanted, is_validate_of, is_stamped, on_attempt, stamp_exists}
-use Rattle.mk_column.specs.Steps.{on_some, beginning, next_id, new_attempt, epoch_of, stamping, stamped, with_txn, column_after}
+use Rattle.mk_column.specs.Steps.{answered, validated, with_read, on_some, beginning, next_id, new_attempt, epoch_of, stamping, stamped, with_txn, column_after}
 use Rattle.mk_driver_laws.proofs.Lookups.{same_id-itself, there, passes-some, passes-at, find-passes, find-pushed, find-change, eqb-tells, and_left, and_right, and_both}
 use Rattle.mk_driver_laws.proofs.Conditions.{all_hold}
 use Rattle.mk_driver_laws.proofs.ColumnMoves.{stops, ColumnFits, WorkFits, AttemptMove, Moves}
@@ -27,12 +32,19 @@ use Rattle.mk_driver_laws.proofs.Taking.{own_id}
 abbrev pub is_going : AttemptState → Bool
 is_going a = not a.stopped
 
+-- it reads
+abbrev pub is_reading : AttemptState → Bool
+is_reading a = a.reading
+
 -- it is stamped and not stopped
 abbrev pub is_live : AttemptState → Bool
 is_live a = is_some a.txn && not a.stopped
 
 abbrev pub IsGoing : ColumnState → TxnId → Type 0
 IsGoing c id = on_attempt c id is_going ≡ true
+
+abbrev pub IsReading : ColumnState → TxnId → Type 0
+IsReading c id = on_attempt c id is_reading ≡ true
 
 abbrev pub IsLive : ColumnState → TxnId → Type 0
 IsLive c id = on_attempt c id is_live ≡ true
@@ -102,6 +114,55 @@ begun_going round c k n replica cl e =
     there_is =
         subst (λ (m : ℕ). passes is_going (find (is_attempt (record { client = m; seq = cl.next_seq })) (c.attempts ++ new_attempt round.faults (next_id cl) replica (epoch_of (slice_get round.views replica)) ∷ [])) ≡ true) number
         (passes-at is_going _ _ found refl)
+
+-- it reads
+pub begun_reading : (round : Setting) (c : ColumnState) → ColumnFits round.faults c → (n replica : ℕ) (cl : ClientState) → client_of c n ≡ Some cl →
+    IsReading (column_after round c (Begin n replica)) (record { client = n; seq = cl.next_seq })
+begun_reading round c k n replica cl e =
+    subst (λ (o : Option ClientState). passes is_reading (find (is_attempt (record { client = n; seq = cl.next_seq })) (on_some (beginning round replica (epoch_of (slice_get round.views replica))) o c).attempts) ≡ true)
+    (sym e) there_is
+  where
+    number : cl.number ≡ n
+    number = eqb-tells cl.number n (find-passes (is_client n) c.clients cl e)
+
+    own : client_of c cl.number ≡ Some cl
+    own = ap (client_of c) number ∙ e
+
+    found : find (is_attempt (next_id cl)) (c.attempts ++ new_attempt round.faults (next_id cl) replica (epoch_of (slice_get round.views replica)) ∷ [])
+        ≡ Some (new_attempt round.faults (next_id cl) replica (epoch_of (slice_get round.views replica)))
+    found = find-pushed (is_attempt (next_id cl)) c.attempts _ (fresh_id round.faults c k [] cl own) (same_id-itself (next_id cl))
+
+    there_is : passes is_reading (find (is_attempt (record { client = n; seq = cl.next_seq })) (c.attempts ++ new_attempt round.faults (next_id cl) replica (epoch_of (slice_get round.views replica)) ∷ [])) ≡ true
+    there_is =
+        subst (λ (m : ℕ). passes is_reading (find (is_attempt (record { client = m; seq = cl.next_seq })) (c.attempts ++ new_attempt round.faults (next_id cl) replica (epoch_of (slice_get round.views replica)) ∷ [])) ≡ true) number
+        (passes-at is_reading _ _ found refl)
+
+-- an attempt reads on while a key is read and answered
+passes_change : (test : AttemptState → Bool) (p q : AttemptState → Bool) (g : AttemptState → AttemptState) (xs : List AttemptState) → ((x : AttemptState) → q (g x) ≡ q x) →
+    ((x : AttemptState) → test (g x) ≡ test x) → passes test (find q (change p g xs)) ≡ passes test (find q xs)
+passes_change test p q g [] same kept = refl
+passes_change test p q g (x ∷ xs) same kept = grind (arith, same x, kept x, passes_change test p q g xs same kept)
+
+pub read_keeps : (round : Setting) (c : ColumnState) (id : TxnId) (key : ℕ) (i : TxnId) → IsReading c i → IsReading (column_after round c (Read id key)) i
+read_keeps round c id key i h = by (attempt_of c id)
+  where
+    by : (o : Option AttemptState) → passes is_reading (find (is_attempt i) (on_some (λ a col. record col { work = Fetching id a.replica key }) o c).attempts) ≡ true
+    by (Some a) = h
+    by None = h
+
+pub key_keeps : (round : Setting) (c : ColumnState) (call : KeyCall) (answer : Answer) (i : TxnId) → IsReading c i → IsReading (column_after round c (Key call answer)) i
+key_keeps round c call answer i h = by c.work
+  where
+    validating : (txn : Transaction) (replica epoch : ℕ) (state : ValidationState) (act : Option KeyAct) → passes is_reading (find (is_attempt i) (validated txn replica epoch state act c).attempts) ≡ true
+    validating txn replica epoch state (Some act) = h
+    validating txn replica epoch state None = h
+
+    by : (w : Work) → passes is_reading (find (is_attempt i) (answered answer w c).attempts) ≡ true
+    by Idle = h
+    by (Fetching id replica key) = passes_change is_reading (is_attempt id) (is_attempt i) (with_read key answer) c.attempts (λ x. refl) (λ x. refl) ∙ h
+    by (Validating txn replica epoch state) = let next = after_answer state answer in validating txn replica epoch next (next_act next)
+    by (Finishing replica []) = h
+    by (Finishing replica (act ∷ acts)) = h
 
 -- before a Begin no Validate of it was sent
 pub begun_unsent : (f : ℕ) (c : ColumnState) → ColumnFits f c → (n : ℕ) (cl : ClientState) → client_of c n ≡ Some cl → IsUnsent c (record { client = n; seq = cl.next_seq })

@@ -39,7 +39,7 @@ use Rattle.mk_driver.specs.Driven.{Standing, PastRound, IsNamed, asked_more, cal
 use Rattle.mk_driver_laws.specs.Enabled.{IsDone, AreDone, NamedIsEnabled}
 use Rattle.mk_driver_laws.proofs.ColumnMoves.{Moves, stays_unsent, AttemptFits, ColumnFits, column_fits}
 use Rattle.mk_driver_laws.proofs.Taking.{step_moves}
-use Rattle.mk_driver_laws.proofs.Frames.{link_grows, stays_going, is_live, IsLive}
+use Rattle.mk_driver_laws.proofs.Frames.{key_keeps, link_grows, stays_going, is_live, IsLive}
 use Rattle.mk_driver_laws.proofs.DriverFits.{WholeFits, whole_plain, whole_split, behind_more, InLink, StageFits, UnderWayFits, CallerFits, TasksFit, DriverFits}
 use Rattle.mk_driver_laws.proofs.Walk.{harmless_after}
 use Rattle.mk_driver_laws.proofs.Named.{NamedFits}
@@ -63,7 +63,7 @@ key_fits round c k call answer b tasks d h =
     elim (whole_split c tasks d h) [
       | inl f ↦ (let id = f.id in let fetch = f.fetch in let rest = f.rest in
           subst (λ (ts : List Task). WholeFits new d ts) (sym f.first) (
-            (stays_going round.faults c new step m id refl fetch.0, stays_unsent round.faults c new step k m id refl fetch.1, fetch.2, fetch.3),
+            (stays_going round.faults c new step m id refl fetch.0, stays_unsent round.faults c new step k m id refl fetch.1, fetch.2, fetch.3, key_keeps round c call answer id fetch.4),
             step_reads (λ other. other ≡ id) round c step refl f.one,
             behind_more (length c.link) (length new.link) (link_grows round.faults c new step m) rest f.behind,
             harmless_after round c k step ((λ i. refl), λ i u. refl) b rest d f.driver,
