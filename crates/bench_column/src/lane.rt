@@ -18,13 +18,17 @@ const MOST_CALLS: u32 = 64;
 // More messages than one attempt sends.
 const MOST_MESSAGES: u32 = 64;
 
-/// The column, its cells, and how many of its messages were taken.
+// How many attempts come between two times that the log is handed out.
+const BATCH: u32 = 64;
+
+/// The column, its cells, how many of its messages were taken, and how many steps its logs had that were handed out.
 #[derive(Drop)]
 pub struct Lane {
     alloc: Global,
     column: Column,
     cells: Cells,
     taken: u64,
+    logged: usize,
 }
 
 fn id_of(seq: u32) -> TxnId {
@@ -77,12 +81,18 @@ impl Lane {
             column: begun(alloc)?,
             cells: Cells::new(alloc, REPLICAS, KEYS)?,
             taken: 0,
+            logged: 0,
         })
     }
 
     /// How many steps were done.
     pub fn steps(&self) -> usize {
-        self.column.log().len()
+        self.logged.saturating_add(self.column.log().len())
+    }
+
+    // Hands out the log, as at a round's end.
+    fn hand_out(&mut self) {
+        self.logged = self.logged.saturating_add(self.column.take_log().len());
     }
 
     // Answers all key calls that are wanted now.
@@ -135,7 +145,11 @@ impl Lane {
         self.column.step(Step::Validate { id })?;
         self.take_all()?;
         self.column.step(Step::Rule { id })?;
-        self.take_all()
+        self.take_all()?;
+        if seq % BATCH == 0 {
+            self.hand_out();
+        }
+        Ok(())
     }
 
     // Whether the coordinator of the attempt learned a commit.
