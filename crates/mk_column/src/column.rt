@@ -37,7 +37,7 @@ use mk_cell::{Answer, answers};
 use mk_coord::Ruling;
 use mk_msg::Link;
 use mk_quorum::Size;
-use mk_record::Entry;
+use mk_record::{Entry, copies};
 use mk_trim::Settled;
 use mk_txn::{Marks, NoMemory, Outcome, Stamp, TxnId};
 use std::alloc::Global;
@@ -526,16 +526,6 @@ impl Column {
         let turn = backup.turn();
         Some((turn.id, turn.view))
     }
-}
-
-fn copies(alloc: Global, entries: &[Entry]) -> Result<Vec<Entry>, NoMemory>
-    ensures { IfOk result (λ copies. copies.items ≡ entries.now) }
-{
-    let mut copies = Vec::new(alloc);
-    for entry in entries {
-        copies.push(entry.copy()?)?;
-    }
-    Ok(copies)
 }
 
 // So many replicas without entries and marks.

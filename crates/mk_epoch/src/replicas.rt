@@ -27,7 +27,7 @@ use crate::replica::Replica;
 use mk_io::EpochWord;
 use mk_merge::{Entries, Keeping, MergeError, Phase, Promise};
 use mk_quorum::Size;
-use mk_record::Entry;
+use mk_record::{Entry, copies};
 use mk_txn::{Marks, NoMemory};
 use std::alloc::Global;
 use std::marker::Model;
@@ -508,14 +508,4 @@ fn is_led<B>(size: Size, epoch: u32, promises: &[Promise<B>]) -> bool
 {
     let leader = epoch % size.n();
     promises.iter().any(|promise| promise.replica == leader)
-}
-
-fn copies(alloc: Global, entries: &[Entry]) -> Result<Vec<Entry>, NoMemory>
-    ensures { IfOk result (λ copies. copies.items ≡ entries.now) }
-{
-    let mut copies = Vec::new(alloc);
-    for entry in entries {
-        copies.push(entry.copy()?)?;
-    }
-    Ok(copies)
 }

@@ -9,6 +9,7 @@ mod tests;
 
 use mk_txn::{Accepted, NoMemory, Outcome, Txn, Vote};
 pub use record::CoreRecord;
+use std::alloc::Global;
 
 /// One attempt at one replica: the view it promised, its vote, what it accepted, and the final outcome.
 #[derive(Drop, Debug)]
@@ -56,4 +57,15 @@ impl Entry {
             None
         }
     }
+}
+
+/// Copies of these entries, in their order.
+pub fn copies(alloc: Global, entries: &[Entry]) -> Result<Vec<Entry>, NoMemory>
+    ensures { IfOk result (λ copies. copies.items ≡ entries.now) }
+{
+    let mut copies = Vec::new(alloc);
+    for entry in entries {
+        copies.push(entry.copy()?)?;
+    }
+    Ok(copies)
 }

@@ -1,4 +1,4 @@
-use crate::{CoreRecord, RecordError};
+use crate::{CoreRecord, RecordError, copies};
 use mk_txn::{Accepted, Outcome, Stamp, Txn, TxnId, Vote};
 use std::test::Fail;
 
@@ -52,7 +52,10 @@ fn a_final_entry_refuses_all(rt: HostRuntime) -> Result<(), Fail> {
     assert_eq!(rt; entry.accepted, Some(accepted));
     assert_eq!(rt; entry.last, Some(Outcome::Commit));
     assert_eq!(rt; record.entries().len(), 1);
+    let kept = copies(alloc, record.entries())?;
     record.clear();
     assert_eq!(rt; record.entries().len(), 0);
+    assert_eq!(rt; kept.len(), 1);
+    assert_eq!(rt; kept[0].last, Some(Outcome::Commit));
     Ok(())
 }

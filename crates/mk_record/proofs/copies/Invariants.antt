@@ -1,5 +1,5 @@
 use Rattle.std.proofs.Common.{◌≡◌, take}
-use Rattle.mk_epoch.proofs.replicas.copies.Given as goal
+use Rattle.mk_record.proofs.copies.Given as goal
 
 -- the entries so far are copied
 abbrev pub invariant-loop-entry : goal.invariant-loop-entry
