@@ -18,5 +18,8 @@ pub mod AddingLaws
 pub mod StandLaws
 pub mod MergedLaws
 pub mod BaseWith
+pub mod AscendingLaws
+pub mod ListedFate
+pub mod SpanningLaws
 pub mod ClashingLaws
 pub mod Examples

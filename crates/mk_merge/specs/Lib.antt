@@ -7,4 +7,6 @@ pub mod Merging
 pub mod Keepings
 pub mod Adding
 pub mod Handing
+pub mod Ascending
+pub mod Spanning
 pub mod Clashing

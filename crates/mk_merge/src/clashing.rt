@@ -1,119 +1,84 @@
 //! Commits by the keys that they read and write, and by their numbers.
-ghost use Rattle.std.specs.Prelude.{◌≡◌, ℕ, Bool, ◌||◌, ◌&&◌, ◌==◌, [], ◌∷◌, ◌++◌, map, IfOk, OnOk, if◌then◌else◌};
+ghost use Rattle.std.specs.Prelude.{◌≡◌, ℕ, Bool, ◌||◌, ◌&&◌, ◌==◌, [], ◌∷◌, ◌++◌, IfOk, OnOk};
 ghost use Rattle.std.specs.List.{list_any};
-ghost use Rattle.mk_txn.specs.Clashes.{conflict, writes_key};
-ghost use Rattle.mk_txn.specs.Transactions.{Transaction, same_id};
-ghost use Rattle.mk_merge.specs.Clashing.{reads_key, group_at, AreTheirs};
+ghost use Rattle.mk_txn.specs.declared.Stamp.{Stamp as StampValue};
+ghost use Rattle.mk_txn.specs.Clashes.{conflict, is_between, writes_key};
+ghost use Rattle.mk_txn.specs.Transactions.{same_id};
+ghost use Rattle.mk_merge.specs.Ascending.{has_between};
+ghost use Rattle.mk_merge.specs.Spanning.{is_spanned, spans_over};
+ghost use Rattle.mk_merge.specs.Clashing.{reads_over, spans_at, stamps_at};
 
-use mk_txn::{NoMemory, Txn, TxnId, conflicts};
+use crate::ascending::Stamps;
+use crate::spanning::{Span, Spans};
+use mk_txn::{NoMemory, Stamp, Txn, TxnId};
 use std::alloc::Global;
 use std::collections::{BTreeMap, BTreeSet};
 use std::marker::Model;
 
-// Whether the transaction conflicts with one of these.
-fn conflicts_with(txn: &Txn, others: &[&Txn]) -> bool
-    ensures { result ≡ list_any (conflict txn.now) (map (λ t. t.now) others.now) }
+// One more span of the key.
+fn add_span(
+    alloc: Global,
+    readers: &mut BTreeMap<u32, Spans>,
+    key: u32,
+    span: Span,
+) -> Result<(), NoMemory>
+    ensures { OnOk result ((other : ℕ) (stamp : StampValue) → is_spanned stamp (spans_at other readers.new.entries) ≡ (is_spanned stamp (spans_at other readers.old.entries) || (other == key && spans_over stamp span))) }
 {
-    for other in others {
-        if conflicts(txn, other) {
-            return true;
-        }
-    }
-    false
+    let spans = match readers.remove(&key) {
+        Some(spans) => spans,
+        None => Spans::new(alloc),
+    };
+    readers.insert(key, spans.with(span)?)?;
+    Ok(())
 }
 
-// Transactions that name one key.
-#[derive(Drop)]
-struct Group<'a> {
-    txns: Vec<&'a Txn>,
-}
-
-impl<'a> Model for Group<'a> {
-    ghost use Rattle.std.specs.Prelude.{List, map};
-    ghost use Rattle.mk_txn.specs.Transactions.{Transaction};
-
-    ghost Value = { List Transaction };
-
-    ghost view = { λ group. map (λ t. t.now) group.txns.items };
-}
-
-impl<'a> Group<'a> {
-    fn new(alloc: Global) -> Group<'a>
-        ensures { result ≡ [] }
-    {
-        Group {
-            txns: Vec::new(alloc),
-        }
-    }
-
-    // The group with one more.
-    fn with(self, txn: &'a Txn) -> Result<Group<'a>, NoMemory>
-        ensures { IfOk result (λ group. group ≡ self.entry ++ txn.now ∷ []) }
-    {
-        let mut txns = self.txns;
-        txns.push(txn)?;
-        Ok(Group { txns })
-    }
-
-    // Whether the transaction conflicts with one of the group.
-    fn conflicts(&self, txn: &Txn) -> bool
-        ensures { result ≡ list_any (conflict txn.now) self.now }
-    {
-        conflicts_with(txn, self.txns.as_slice())
-    }
-}
-
-// Whether the transaction conflicts with one of the key's group.
-fn conflicts_at(groups: &BTreeMap<u32, Group>, key: u32, txn: &Txn) -> bool
-    ensures { result ≡ list_any (conflict txn.now) (group_at key groups.now.entries) }
+// One more stamp of the key.
+fn add_stamp(
+    alloc: Global,
+    writers: &mut BTreeMap<u32, Stamps>,
+    key: u32,
+    stamp: Stamp,
+) -> Result<(), NoMemory>
+    ensures { OnOk result ((other : ℕ) (test : StampValue → Bool) → list_any test (stamps_at other writers.new.entries) ≡ (list_any test (stamps_at other writers.old.entries) || (other == key && test stamp))) }
 {
-    match groups.get(&key) {
-        Some(group) => group.conflicts(txn),
+    let stamps = match writers.remove(&key) {
+        Some(stamps) => stamps,
+        None => Stamps::new(alloc),
+    };
+    writers.insert(key, stamps.with(stamp)?)?;
+    Ok(())
+}
+
+// Whether one of the key's stamps lies between the two.
+fn has_stamp_between(writers: &BTreeMap<u32, Stamps>, key: u32, low: Stamp, high: Stamp) -> bool
+    ensures { result ≡ has_between low high (stamps_at key writers.now.entries) }
+{
+    match writers.get(&key) {
+        Some(stamps) => stamps.has_between(low, high),
         None => false,
     }
 }
 
-// One more in the key's group.
-fn add_at<'a>(
-    alloc: Global,
-    groups: &mut BTreeMap<u32, Group<'a>>,
-    key: u32,
-    txn: &'a Txn,
-) -> Result<(), NoMemory>
-    ensures { OnOk result ((other : ℕ) → group_at other groups.new.entries ≡ (if other == key then group_at key groups.old.entries ++ txn.now ∷ [] else group_at other groups.old.entries)) }
-{
-    let group = match groups.remove(&key) {
-        Some(group) => group,
-        None => Group::new(alloc),
-    };
-    groups.insert(key, group.with(txn)?)?;
-    Ok(())
-}
-
-// One more in the group of each key that it reads.
-fn add_reads<'a>(
-    alloc: Global,
-    groups: &mut BTreeMap<u32, Group<'a>>,
-    txn: &'a Txn,
-) -> Result<(), NoMemory>
-    ensures { OnOk result ((key : ℕ) (test : Transaction → Bool) → list_any test (group_at key groups.new.entries) ≡ (list_any test (group_at key groups.old.entries) || (reads_key key txn.now && test txn.now))) }
+// The spans of its reads, at the keys that it reads.
+fn add_reads(alloc: Global, readers: &mut BTreeMap<u32, Spans>, txn: &Txn) -> Result<(), NoMemory>
+    ensures { OnOk result ((key : ℕ) (stamp : StampValue) → is_spanned stamp (spans_at key readers.new.entries) ≡ (is_spanned stamp (spans_at key readers.old.entries) || reads_over key stamp txn.now)) }
 {
     for item in txn.reads() {
-        add_at(alloc, groups, item.key, txn)?;
+        let span = Span {
+            version: item.version,
+            reader: txn.stamp(),
+        };
+        add_span(alloc, readers, item.key, span)?;
     }
     Ok(())
 }
 
-// One more in the group of each key that it writes.
-fn add_writes<'a>(
-    alloc: Global,
-    groups: &mut BTreeMap<u32, Group<'a>>,
-    txn: &'a Txn,
-) -> Result<(), NoMemory>
-    ensures { OnOk result ((key : ℕ) (test : Transaction → Bool) → list_any test (group_at key groups.new.entries) ≡ (list_any test (group_at key groups.old.entries) || (writes_key key txn.now && test txn.now))) }
+// Its stamp, at the keys that it writes.
+fn add_writes(alloc: Global, writers: &mut BTreeMap<u32, Stamps>, txn: &Txn) -> Result<(), NoMemory>
+    ensures { OnOk result ((key : ℕ) (test : StampValue → Bool) → list_any test (stamps_at key writers.new.entries) ≡ (list_any test (stamps_at key writers.old.entries) || (writes_key key txn.now && test txn.now.stamp))) }
 {
     for item in txn.writes() {
-        add_at(alloc, groups, item.key, txn)?;
+        add_stamp(alloc, writers, item.key, txn.stamp())?;
     }
     Ok(())
 }
@@ -122,9 +87,9 @@ fn add_writes<'a>(
 #[derive(Drop)]
 pub(crate) struct Commits<'a> {
     list: Vec<&'a Txn>,
-    // those that read each key, and those that write it
-    readers: BTreeMap<u32, Group<'a>>,
-    writers: BTreeMap<u32, Group<'a>>,
+    // the spans of the reads of each key, and the stamps of those that write it
+    readers: BTreeMap<u32, Spans>,
+    writers: BTreeMap<u32, Stamps>,
     ids: BTreeSet<TxnId>,
 }
 
@@ -181,42 +146,43 @@ impl<'a> Commits<'a> {
         self.ids.contains(&id)
     }
 
-    // Whether the transaction conflicts with one that writes this key.
-    fn conflicts_with_writer(&self, key: u32, txn: &Txn) -> bool
-        ensures { result ≡ list_any (λ c. writes_key key c && conflict txn.now c) self.now }
+    // Whether one that writes this key lies between the two stamps.
+    fn has_writer_between(&self, key: u32, low: Stamp, high: Stamp) -> bool
+        ensures { result ≡ list_any (λ c. writes_key key c && is_between low c.stamp high) self.now }
     {
-        conflicts_at(&self.writers, key, txn)
+        has_stamp_between(&self.writers, key, low, high)
     }
 
-    // Whether the transaction conflicts with one that reads this key.
-    fn conflicts_with_reader(&self, key: u32, txn: &Txn) -> bool
-        ensures { result ≡ list_any (λ c. reads_key key c && conflict txn.now c) self.now }
+    // Whether the stamp lies between one of them and a version of this key that it read.
+    fn has_reader_over(&self, key: u32, stamp: Stamp) -> bool
+        ensures { result ≡ list_any (reads_over key stamp) self.now }
     {
-        conflicts_at(&self.readers, key, txn)
+        match self.readers.get(&key) {
+            Some(spans) => spans.reaches(stamp),
+            None => false,
+        }
     }
 
-    // Whether it conflicts with one that writes a key which it reads.
-    fn reads_conflict(&self, txn: &Txn) -> bool
-        ensures { result ≡ list_any (λ item. list_any (λ c. writes_key item.key c && conflict txn.now c) self.now) txn.now.reads }
+    // Whether one that writes a key which the transaction reads lies between the version read and its stamp.
+    fn reads_clash(&self, txn: &Txn) -> bool
+        ensures { result ≡ list_any (λ item. list_any (λ c. writes_key item.key c && is_between item.version c.stamp txn.now.stamp) self.now) txn.now.reads }
     {
-        txn.reads()
-            .iter()
-            .any(|item| self.conflicts_with_writer(item.key, txn))
+        txn.reads().iter().any(|item| self.has_writer_between(item.key, item.version, txn.stamp()))
     }
 
-    // Whether it conflicts with one that reads a key which it writes.
-    fn writes_conflict(&self, txn: &Txn) -> bool
-        ensures { result ≡ list_any (λ item. list_any (λ c. reads_key item.key c && conflict txn.now c) self.now) txn.now.writes }
+    // Whether its stamp lies between one of them and the version that this read of a key which the transaction writes.
+    fn writes_clash(&self, txn: &Txn) -> bool
+        ensures { result ≡ list_any (λ item. list_any (reads_over item.key txn.now.stamp) self.now) txn.now.writes }
     {
         txn.writes()
             .iter()
-            .any(|item| self.conflicts_with_reader(item.key, txn))
+            .any(|item| self.has_reader_over(item.key, txn.stamp()))
     }
 
     // Whether the transaction conflicts with one of them.
     pub(crate) fn conflicts(&self, txn: &Txn) -> bool
         ensures { result ≡ list_any (conflict txn.now) self.now }
     {
-        self.reads_conflict(txn) || self.writes_conflict(txn)
+        self.reads_clash(txn) || self.writes_clash(txn)
     }
 }

@@ -1,6 +1,7 @@
 //! Bases of epochs, the promises from which one is merged, and the views that columns have of replicas.
 #![tactic(auto)]
 
+mod ascending;
 mod choosing;
 mod clashing;
 mod handing;
@@ -11,6 +12,7 @@ mod merging;
 mod ordering;
 mod rebuilding;
 mod reporting;
+mod spanning;
 #[cfg(test)]
 mod tests;
 

@@ -5,7 +5,7 @@ ghost use Rattle.mk_merge.specs.Bases.{IsBase, IsInIdOrder, empty_base, fate_in,
 
 use crate::{Base, Fated};
 use mk_trim::Kept;
-use mk_txn::{Marks, NoMemory, Outcome, TxnId, same_id};
+use mk_txn::{Marks, NoMemory, Outcome, TxnId};
 use std::alloc::Global;
 
 impl Fated {
@@ -56,10 +56,10 @@ impl Base {
     pub fn fate(&self, id: TxnId) -> Option<Outcome>
         ensures { result ≡ fate_in id self.now.list }
     {
-        self.list
-            .iter()
-            .find(|fated| same_id(fated.txn.id(), id))
-            .map(|fated| fated.outcome)
+        match self.list.binary_search_by_key(&id, |fated| fated.txn.id()) {
+            Ok(place) => Some(self.list[place].outcome),
+            Err(_) => None,
+        }
     }
 
     /// The transactions with their outcomes, in order of their numbers, covered ones among them.
