@@ -1,6 +1,6 @@
 -- What a column keeps when a key call is answered or a replica takes a message.
 use Rattle.std.proofs.Common.{◌≡◌, ◌<◌, ℕ, zero, suc, Bool, true, false, refl, sym, subst, ap, ◌∙◌, List, [], ◌∷◌, ◌++◌, Option, Some, None, ◌||◌, length, get_or, arith}
-use Rattle.std.specs.Prelude.{find, map, option_map, slice_set, slice_index_or, IsSome}
+use Rattle.std.specs.Prelude.{find, map, option_map, slice_set, slice_index_or, IsSomeAnd}
 use Rattle.std.specs.List.{list_any}
 use Rattle.std.proofs.lemmas.List.{map-set, append-nil}
 use Rattle.std.proofs.lemmas.List.Folds.{list_any-append}
@@ -21,17 +21,18 @@ use Rattle.mk_quorum.specs.Sizes.{members}
 use Rattle.mk_trim.specs.SettledAttempts.{SettledAttempts}
 use Rattle.mk_column.specs.declared.work.Work.{Work as KeptWork}
 use Rattle.mk_column.specs.declared.work.Work.TheVariants.{Idle as KeptIdle, Fetching as KeptFetching, Validating as KeptValidating}
-use Rattle.mk_column.specs.ColumnState.{Setting, AttemptState, Learning, is_attempt, entries_at}
+use Rattle.mk_column.specs.ColumnState.{Setting, ColumnState, AttemptState, Learning, attempt_of, is_attempt, entries_at}
 use Rattle.mk_column.specs.ColumnState.Work.{Fetching}
 use Rattle.mk_column.specs.declared.Step.TheVariants.{Read}
 use Rattle.mk_column.specs.Replicas.{Held}
 use Rattle.mk_column.specs.HeldByCode.{work_of}
-use Rattle.mk_column.specs.Conditions.{is_validate_of}
+use Rattle.mk_quorum.specs.Slots.{passes}
+use Rattle.mk_column.specs.Conditions.{is_validate_of, may_read}
 use Rattle.mk_column.specs.Steps.{answered, validated, voted_msg, on_some, column_after}
-use Rattle.mk_column.specs.AttemptsByCode.{BegunView, begun_of, on_state, states_of}
-use Rattle.mk_column.specs.ColumnByCode.{Kept, IsKept, AttemptFits, WorkFits, learning_of_kept, column_of}
+use Rattle.mk_column.specs.AttemptsByCode.{BegunView, begun_of, change_begun, on_state, states_of}
+use Rattle.mk_column.specs.ColumnByCode.{Kept, IsKept, AttemptFits, MayRead, WorkFits, learning_of_kept, column_of}
 use Rattle.mk_column.proofs.ColumnLaws.{attempt-found}
-use Rattle.mk_column.proofs.KeptLaws.{IsGentle}
+use Rattle.mk_column.proofs.KeptLaws.{IsGentle, IsKept-changed}
 
 -- key calls that begin leave what the column keeps, where what is to be kept of them is there
 pub IsKept-worked : (f : ℕ) (kept : Kept) (ends : SettledAttempts) (work : KeptWork) → IsKept f kept ends → WorkFits (members f) kept.attempts kept.replicas work → IsKept f (record kept { work = work }) ends
@@ -55,8 +56,13 @@ pub IsKept-idle : (f : ℕ) (kept : Kept) (ends : SettledAttempts) → IsKept f 
 IsKept-idle f kept ends h = IsKept-worked f kept ends KeptIdle h tt
 
 -- one more read leaves what is kept of an attempt
-pub read-gentle : (item : ReadItem) → IsGentle (on_state (λ a. record a { reads = a.reads ++ item ∷ [] }))
+read-gentle : (item : ReadItem) → IsGentle (on_state (λ a. record a { reads = a.reads ++ item ∷ [] }))
 read-gentle item = record { place = record { id = λ b. refl; reading = λ b. refl }; faults = λ b. refl; validated = λ b. refl; decided = λ b. refl; txn = λ b. refl }
+
+-- a column keeps what it keeps when a key is read
+pub IsKept-read : (f : ℕ) (id : TxnId) (item : ReadItem) (kept : Kept) (ends : SettledAttempts) (attempts : List BegunView) → attempts ≡ change_begun id (on_state (λ a. record a { reads = a.reads ++ item ∷ [] })) kept.attempts → IsKept f kept ends
+    → IsKept f (record kept { attempts = attempts; work = KeptIdle }) ends
+IsKept-read f id item kept ends attempts is h = IsKept-changed f id _ (record kept { work = KeptIdle }) ends attempts (read-gentle item) (λ b. refl) tt is (IsKept-idle f kept ends h)
 
 or_false : (b : Bool) → b ≡ (b || false)
 or_false true = refl
@@ -139,13 +145,26 @@ vote-state kept txn r epoch state answer vote old new link work working voted wi
     ∙ ap (λ o. validated txn r epoch next o column) (sym over.over)
     ∙ ap (λ w. answered answer (work_of w) column) (sym working)
 
--- an attempt that is kept is there
-pub attempt-there : (id : TxnId) (all : List BegunView) → IsSome (begun_of id all) → IsSome (find (is_attempt id) (states_of all))
-attempt-there id all h = subst IsSome (sym (attempt-found id all)) (from (begun_of id all) h)
+-- an attempt that may read the key is there, and may read it
+pub room-there : (key : ℕ) (id : TxnId) (all : List BegunView) → MayRead key (begun_of id all) → IsSomeAnd (find (is_attempt id) (states_of all)) (λ a. may_read key a ≡ true)
+room-there key id all h = subst (λ o. IsSomeAnd o (λ a. may_read key a ≡ true)) (sym (attempt-found id all)) (from (begun_of id all) h)
   where
-    from : (o : Option BegunView) → IsSome o → IsSome (option_map (λ (b : BegunView). b.state) o)
-    from None k = absurd (false≢true k)
-    from (Some b) k = refl
+    from : (o : Option BegunView) → MayRead key o → IsSomeAnd (option_map (λ (b : BegunView). b.state) o) (λ a. may_read key a ≡ true)
+    from None k = k
+    from (Some b) k = k
+
+-- the attempt that may read the key is kept so
+pub room-kept : (key : ℕ) (id : TxnId) (all : List BegunView) (column : ColumnState) → column.attempts ≡ states_of all → IsSomeAnd (attempt_of column id) (λ a. may_read key a ≡ true) → MayRead key (begun_of id all)
+room-kept key id all column is h = from (begun_of id all) (subst (λ o. IsSomeAnd o (λ a. may_read key a ≡ true)) (ap (find (is_attempt id)) is ∙ attempt-found id all) h)
+  where
+    from : (o : Option BegunView) → IsSomeAnd (option_map (λ (b : BegunView). b.state) o) (λ a. may_read key a ≡ true) → MayRead key o
+    from None k = k
+    from (Some b) k = k
+
+-- a test that an attempt passes is one that it may read the key
+pub room-passes : (key : ℕ) (o : Option AttemptState) → passes (may_read key) o ≡ true → IsSomeAnd o (λ a. may_read key a ≡ true)
+room-passes key None e = absurd (false≢true e)
+room-passes key (Some a) e = e
 
 -- the key's value is asked for
 pub read-state : (round : Setting) (kept : Kept) (id : TxnId) (key : ℕ) (begun : BegunView) (replica : ℕ) → begun_of id kept.attempts ≡ Some begun → replica ≡ begun.state.replica

@@ -29,7 +29,7 @@ use Rattle.mk_merge.specs.declared.ReplicaView.{ReplicaView}
 use Rattle.mk_column.specs.declared.Step.TheVariants.{Begin, Unread}
 use Rattle.mk_column.specs.Steps.{begun, new_attempt, unread_attempt, epoch_of, on_some, beginning, left_unread, stepped, column_after}
 use Rattle.mk_column.specs.AttemptsByCode.{BegunView, as_begun, is_begun, begun_of}
-use Rattle.mk_column.specs.ColumnByCode.{Kept, IsKept, AttemptFits, ClientFits, WorkFits, has_reading, learning_of_kept, column_of}
+use Rattle.mk_column.specs.ColumnByCode.{Kept, IsKept, AttemptFits, ClientFits, MayRead, WorkFits, has_reading, learning_of_kept, column_of}
 use Rattle.mk_column.proofs.ColumnLaws.{client-found, find-passes, Each-find, may_begin-found, may_begin-none}
 use Rattle.mk_column.proofs.ListLaws.{Each-turn, find-change, map-change, changed_member}
 
@@ -228,13 +228,20 @@ home-begun n m epoch reading all h =
     from None k = absurd (false≢true k)
     from (Some client) k = refl
 
-work-begun : (n : ℕ) (all : List BegunView) (new : BegunView) (replicas : List Held) (work : KeptWork) → WorkFits n all replicas work → WorkFits n (all ++ new ∷ []) replicas work
-work-begun n all new replicas KeptIdle h = tt
-work-begun n all new replicas (KeptFetching id replica key) h = subst IsSome (sym (begun-append id all new)) (from (begun_of id all) h)
+known-begun : (id : TxnId) (all : List BegunView) (new : BegunView) → IsSome (begun_of id all) → IsSome (begun_of id (all ++ new ∷ []))
+known-begun id all new h = subst IsSome (sym (begun-append id all new)) (from (begun_of id all) h)
   where
     from : (o : Option BegunView) → IsSome o → IsSome (option_or o (cond (same_id new.state.id id) (Some new) None))
     from None k = absurd (false≢true k)
     from (Some begun) k = refl
+
+work-begun : (n : ℕ) (all : List BegunView) (new : BegunView) (replicas : List Held) (work : KeptWork) → WorkFits n all replicas work → WorkFits n (all ++ new ∷ []) replicas work
+work-begun n all new replicas KeptIdle h = tt
+work-begun n all new replicas (KeptFetching id replica key) h = subst (MayRead key) (sym (begun-append id all new)) (from (begun_of id all) h)
+  where
+    from : (o : Option BegunView) → MayRead key o → MayRead key (option_or o (cond (same_id new.state.id id) (Some new) None))
+    from None k = absurd k
+    from (Some begun) k = k
 work-begun n all new replicas (KeptValidating txn replica epoch state) h = h
 work-begun n all new replicas (KeptFinishing replica left) h = tt
 
@@ -266,7 +273,7 @@ IsKept-begun f kept ends after client epoch new clients h found idle upto next s
           (Each-weaker (λ (b : BegunView). IsSome (kept_client b.state.id.client kept.clients)) (λ (b : BegunView). IsSome (kept_client b.state.id.client clients)) (λ b k. home b.state.id.client k) kept.attempts h.homes)
           (subst (λ m. IsSome (kept_client m clients)) (sym of_client) (home n (subst IsSome (sym found) refl)), tt);
       work = work-begun (members f) kept.attempts new kept.replicas kept.work h.work;
-      takers = Each-weaker (λ (backup : BackupView). IsSome (begun_of backup.of.id kept.attempts)) (λ (backup : BackupView). IsSome (begun_of backup.of.id (kept.attempts ++ new ∷ []))) (λ backup k. work-begun 0 kept.attempts new [] (KeptFetching backup.of.id 0 0) k) kept.takeovers h.takers;
+      takers = Each-weaker (λ (backup : BackupView). IsSome (begun_of backup.of.id kept.attempts)) (λ (backup : BackupView). IsSome (begun_of backup.of.id (kept.attempts ++ new ∷ []))) (λ backup k. known-begun backup.of.id kept.attempts new k) kept.takeovers h.takers;
     }
   where
     or_assoc : (a b t : Bool) → ((a || b) || t) ≡ (a || (b || t))

@@ -28,7 +28,7 @@ use Rattle.mk_column.specs.AttemptsByCode.{BegunView, on_state, begun_of, is_beg
 use Rattle.mk_column.specs.ColumnByCode.{Kept, IsKept, AttemptFits, ClientFits}
 use Rattle.mk_column.proofs.ColumnLaws.{Each-find}
 use Rattle.mk_column.proofs.ListLaws.{Each-turn, find-change, map-change, changed_member}
-use Rattle.mk_column.proofs.KeptLaws.{IsGentle}
+use Rattle.mk_column.proofs.KeptLaws.{IsGentle, KeepsReads}
 
 -- what changes nothing of a member changes nothing of the list
 pub change-same : {X : Type 0} (p : X → Bool) (f : X → X) → ((x : X) → f x ≡ x) → (xs : List X) → change p f xs ≡ xs
@@ -59,6 +59,16 @@ count-gentle r (Decide outcome) e = absurd (false≢true e)
 count-gentle r Ask e = absurd (false≢true e)
 count-gentle r (ToldBody told) e = absurd (false≢true e)
 count-gentle r (MovedBody moved) e = absurd (false≢true e)
+
+pub count-reads : (r : ℕ) (body : Body) → counts body ≡ true → KeepsReads (on_state (attempt_answered r body))
+count-reads r (Voted vote) e b = refl
+count-reads r AcceptedBody e b = refl
+count-reads r (ValidateBody mark) e b = refl
+count-reads r (Accept outcome) e b = refl
+count-reads r (Decide outcome) e b = refl
+count-reads r Ask e b = refl
+count-reads r (ToldBody told) e b = absurd (false≢true e)
+count-reads r (MovedBody moved) e b = absurd (false≢true e)
 
 pub count-settled : (r : ℕ) (body : Body) → counts body ≡ true → (b : BegunView) → is_settled (on_state (attempt_answered r body) b).state ≡ is_settled b.state
 count-settled r (Voted vote) e b = refl

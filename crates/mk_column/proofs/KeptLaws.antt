@@ -1,5 +1,5 @@
 -- What a column keeps while an attempt is changed at its place, and while messages, learnings and takeovers are joined.
-use Rattle.std.proofs.Common.{◌≡◌, ℕ, ◌+◌, ◌<◌, ◌≤◌, true, false, refl, sym, ap, subst, ◌∙◌, ◌||◌, ◌&&◌, ◌==◌, List, Option, Some, None, IsSome}
+use Rattle.std.proofs.Common.{◌≡◌, ℕ, ◌+◌, ◌<◌, ◌≤◌, Bool, true, false, cond, refl, sym, ap, subst, ◌∙◌, ◌||◌, ◌&&◌, ◌==◌, List, Option, Some, None, IsSome}
 use Rattle.std.specs.Prelude.{map, option_map}
 use Rattle.std.specs.List.{list_any}
 use Rattle.mk_lists.specs.Among.{Each, Each-weaker}
@@ -20,7 +20,8 @@ use Rattle.mk_column.specs.HeldByCode.{work_of}
 use Rattle.mk_column.specs.AttemptsByCode.{BegunView, begun_of, is_begun, change_begun}
 use Rattle.mk_column.specs.TakeoversByCode.{BackupView}
 use Rattle.mk_column.specs.ClientsByCode.{kept_client}
-use Rattle.mk_column.specs.ColumnByCode.{Kept, AttemptFits, ClientFits, IsKept, WorkFits, first_decision, learning_of_kept}
+use Rattle.mk_column.specs.Readings.{may_join}
+use Rattle.mk_column.specs.ColumnByCode.{Kept, AttemptFits, ClientFits, IsKept, MayRead, WorkFits, first_decision, learning_of_kept}
 use Rattle.mk_column.proofs.ListLaws.{Each-turn, find-change, passes-changed, changed_member, list_any-kept, none-from_map}
 
 -- where no key call is under way, nothing is to be kept of it
@@ -34,6 +35,10 @@ idle-fits n attempts replicas (KeptFinishing replica left) e = absurd (cc e)
 pub record KeepsPlace (g : BegunView → BegunView) : Type 0 where
   pub id : (b : BegunView) → (g b).state.id ≡ b.state.id
   pub reading : (b : BegunView) → (g b).state.reading ≡ b.state.reading
+
+-- a change that leaves what an attempt read
+abbrev pub KeepsReads : (BegunView → BegunView) → Type 0
+KeepsReads g = (b : BegunView) → (g b).state.reads ≡ b.state.reads
 
 module _ (id : TxnId) (g : BegunView → BegunView) (keeps : KeepsPlace g) where
   -- what is found after the change is what was found, changed where it is the attempt
@@ -64,17 +69,31 @@ module _ (id : TxnId) (g : BegunView → BegunView) (keeps : KeepsPlace g) where
   clients-turned : (all : List BegunView) (clients : List Client) → Each (ClientFits all) clients → Each (ClientFits (change_begun id g all)) clients
   clients-turned all clients h = Each-weaker (ClientFits all) (ClientFits (change_begun id g all)) (client-turned all) clients h
 
-  work-turned : (n : ℕ) (all : List BegunView) (replicas : List Held) (work : KeptWork) → WorkFits n all replicas work → WorkFits n (change_begun id g all) replicas work
-  work-turned n all replicas KeptIdle h = tt
-  work-turned n all replicas (KeptFetching other replica key) h = some-after other all h
-  work-turned n all replicas (KeptValidating txn replica epoch state) h = h
-  work-turned n all replicas (KeptFinishing replica left) h = tt
+  -- what may be read may be read after a change that leaves what was read
+  room-after : KeepsReads g → (key : ℕ) (other : TxnId) (all : List BegunView) → MayRead key (begun_of other all) → MayRead key (begun_of other (change_begun id g all))
+  room-after same key other all h = subst (MayRead key) (sym (begun-turned other all)) (by_found (begun_of other all) h)
+    where
+      by_test : (t : Bool) (b : BegunView) → may_join key b.state.reads ≡ true → may_join key (cond t (g b) b).state.reads ≡ true
+      by_test true b room = ap (may_join key) (same b) ∙ room
+      by_test false b room = room
 
-  -- what is to be shown of a changed attempt, of the others, and of what was sent, learned and settled
+      by_found : (o : Option BegunView) → MayRead key o → MayRead key (option_map (changed_member (is_begun id) g) o)
+      by_found None room = room
+      by_found (Some b) room = by_test (is_begun id b) b room
+
+  -- the key calls keep what they keep
+  pub work-turned : KeepsReads g → (n : ℕ) (all : List BegunView) (replicas : List Held) (work : KeptWork) → WorkFits n all replicas work → WorkFits n (change_begun id g all) replicas work
+  work-turned same n all replicas KeptIdle h = tt
+  work-turned same n all replicas (KeptFetching other replica key) h = room-after same key other all h
+  work-turned same n all replicas (KeptValidating txn replica epoch state) h = h
+  work-turned same n all replicas (KeptFinishing replica left) h = tt
+
+  -- what is to be shown of a changed attempt, of the others, of the key calls, and of what was sent, learned and settled
   pub record Turned (f : ℕ) (kept : Kept) (link : List Msg) (learned : List Learning) (ends : SettledAttempts) : Type 0 where
     pub here : (b : BegunView) → is_begun id b ≡ true → AttemptFits f kept.link (map learning_of_kept kept.learned) b → AttemptFits f link learned (g b)
     pub other : (b : BegunView) → is_begun id b ≡ false → AttemptFits f kept.link (map learning_of_kept kept.learned) b → AttemptFits f link learned b
     pub sent : Each (λ (msg : Msg). msg.replica < members f) link
+    pub work : WorkFits (members f) (change_begun id g kept.attempts) kept.replicas kept.work
     pub settled : (q : TxnId) → is_kept_settled ends q ≡ ((q.seq == 0) || passes (λ (begun : BegunView). is_settled begun.state) (begun_of q (change_begun id g kept.attempts)))
     pub decisions : (q : TxnId) → begun_of q kept.attempts ≡ None → first_decision learned q ≡ None
     pub validates : (q : TxnId) → begun_of q kept.attempts ≡ None → list_any (is_validate_of q) link ≡ false
@@ -94,7 +113,7 @@ module _ (id : TxnId) (g : BegunView → BegunView) (keeps : KeepsPlace g) where
         decisions = λ q none. t.decisions q (none-before q kept.attempts none);
         validates = λ q none. t.validates q (none-before q kept.attempts none);
         homes = Each-turn (is_begun id) g _ _ (λ b e there. subst (λ i. IsSome (kept_client i.client kept.clients)) (sym (keeps.id b)) there) (λ b e there. there) kept.attempts h.homes;
-        work = work-turned (members f) kept.attempts kept.replicas kept.work h.work;
+        work = t.work;
         takers = Each-weaker (λ (backup : BackupView). IsSome (begun_of backup.of.id kept.attempts)) (λ (backup : BackupView). IsSome (begun_of backup.of.id (change_begun id g kept.attempts))) (λ backup k. some-after backup.of.id kept.attempts k) kept.takeovers h.takers;
       })
 
@@ -125,16 +144,24 @@ fits-gentle f link learned g b gentle h =
       seq = subst (λ i. i.seq ≤ 16384) (sym (gentle.place.id b)) h.seq;
     }
 
-pub IsKept-gentle : (f : ℕ) (id : TxnId) (g : BegunView → BegunView) (kept : Kept) (ends : SettledAttempts) (attempts : List BegunView) → IsGentle g → ((b : BegunView) → is_settled (g b).state ≡ is_settled b.state)
-    → attempts ≡ change_begun id g kept.attempts → IsKept f kept ends → IsKept f (record kept { attempts = attempts }) ends
-IsKept-gentle f id g kept ends attempts gentle same is h =
+-- a column keeps what it keeps when an attempt is changed gently, where the key calls do
+pub IsKept-changed : (f : ℕ) (id : TxnId) (g : BegunView → BegunView) (kept : Kept) (ends : SettledAttempts) (attempts : List BegunView) → IsGentle g → ((b : BegunView) → is_settled (g b).state ≡ is_settled b.state)
+    → WorkFits (members f) (change_begun id g kept.attempts) kept.replicas kept.work → attempts ≡ change_begun id g kept.attempts → IsKept f kept ends → IsKept f (record kept { attempts = attempts }) ends
+IsKept-changed f id g kept ends attempts gentle same work is h =
     IsKept-turned id g gentle.place f kept ends ends attempts kept.link kept.learned is
     (record {
       here = λ b e fits. fits-gentle f kept.link (map learning_of_kept kept.learned) g b gentle fits;
       other = λ b e fits. fits;
       sent = h.sent;
+      work = work;
       settled = settled-turned id g gentle.place ends kept.attempts same h.settled;
       decisions = h.decisions;
       validates = h.validates;
     })
     h
+
+-- the same where the change leaves what the attempt read, so that the key calls keep what they keep
+pub IsKept-gentle : (f : ℕ) (id : TxnId) (g : BegunView → BegunView) (kept : Kept) (ends : SettledAttempts) (attempts : List BegunView) → IsGentle g → KeepsReads g → ((b : BegunView) → is_settled (g b).state ≡ is_settled b.state)
+    → attempts ≡ change_begun id g kept.attempts → IsKept f kept ends → IsKept f (record kept { attempts = attempts }) ends
+IsKept-gentle f id g kept ends attempts gentle reads same is h =
+    IsKept-changed f id g kept ends attempts gentle same (work-turned id g gentle.place reads (members f) kept.attempts kept.replicas kept.work h.work) is h

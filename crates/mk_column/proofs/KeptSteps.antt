@@ -27,10 +27,10 @@ use Rattle.mk_column.specs.Steps.{proposing, taught}
 use Rattle.mk_column.specs.AttemptsByCode.{BegunView, begun_of, is_begun, change_begun, on_state}
 use Rattle.mk_column.specs.TakeoversByCode.{BackupView, change_backup, on_backup}
 use Rattle.mk_column.specs.declared.backup.Turn.{Turn}
-use Rattle.mk_column.specs.ColumnByCode.{Kept, AttemptFits, IsKept, first_decision, learning_of_kept}
+use Rattle.mk_column.specs.ColumnByCode.{Kept, AttemptFits, IsKept, first_decision, learning_of_kept, own_learned}
 use Rattle.mk_column.proofs.ColumnLaws.{find-passes}
 use Rattle.mk_column.proofs.ListLaws.{changed_member}
-use Rattle.mk_column.proofs.KeptLaws.{KeepsPlace, Turned, IsKept-turned, begun-turned, settled-turned, fits-gentle, IsGentle}
+use Rattle.mk_column.proofs.KeptLaws.{KeepsPlace, Turned, IsKept-turned, begun-turned, some-after, settled-turned, work-turned, fits-gentle, IsGentle}
 
 -- ---- messages
 
@@ -116,6 +116,7 @@ IsKept-validates f id kept ends attempts link msgs is sends heard others there k
       here = here;
       other = other;
       sent = Each-append (λ (msg : Msg). msg.replica < members f) kept.link msgs h.sent there;
+      work = work-turned id (λ b. record b { validated = true }) validates-gentle (λ b. refl) (members f) kept.attempts kept.replicas kept.work h.work;
       settled = settled-turned id (λ b. record b { validated = true }) validates-gentle ends kept.attempts (λ b. refl) h.settled;
       decisions = h.decisions;
       validates = λ q none. apart q (unknown_apart id q kept.attempts none known) ∙ h.validates q none;
@@ -213,6 +214,7 @@ IsKept-settles f id outcome kept old ends attempts is settles known h =
       here = λ b e fits. fits-gentle f kept.link learned g b (taught-gentle outcome) fits;
       other = λ b e fits. fits;
       sent = h.sent;
+      work = work-turned id g (taught-gentle outcome).place (λ b. refl) (members f) kept.attempts kept.replicas kept.work h.work;
       settled = λ q. settles q ∙ ap (λ b. b || same_id id q) (h.settled q) ∙ or-assoc (q.seq == 0) (passes (λ (b : BegunView). is_settled b.state) (begun_of q kept.attempts)) (same_id id q)
           ∙ ap (λ b. (q.seq == 0) || b) (sym (settles-found id outcome kept.attempts q known));
       decisions = h.decisions;
@@ -265,6 +267,7 @@ IsKept-decides f id way outcome kept ends attempts learned is more by known h =
       here = here;
       other = other;
       sent = h.sent;
+      work = work-turned id g (deciding-place outcome) (λ b. refl) (members f) kept.attempts kept.replicas kept.work h.work;
       settled = settled-turned id g (deciding-place outcome) ends kept.attempts (λ b. refl) h.settled;
       decisions = λ q none. apart q (unknown_apart id q kept.attempts none known) ∙ h.decisions q none;
       validates = h.validates;
@@ -274,6 +277,15 @@ IsKept-decides f id way outcome kept ends attempts learned is more by known h =
     and_true : (b : Bool) → (b && not false) ≡ b
     and_true true = refl
     and_true false = refl
+
+-- ---- an own coordinator learns an outcome, not by finishing
+
+pub IsKept-learns : (f : ℕ) (id : TxnId) (way : Way) (outcome : Outcome) (kept : Kept) (old ends : SettledAttempts) (attempts : List BegunView) (learned : List Learned) → attempts ≡ own_learned id outcome kept.attempts → AlsoSettles old ends id
+    → map learning_of_kept learned ≡ map learning_of_kept kept.learned ++ learning id way outcome ∷ [] → is_finishing way ≡ false → IsSome (begun_of id kept.attempts) → IsKept f kept old → IsKept f (record kept { attempts = attempts; learned = learned }) ends
+IsKept-learns f id way outcome kept old ends attempts learned is settles more by there h =
+    let between = change_begun id (on_state (taught outcome)) kept.attempts in
+    let then : IsSome (begun_of id between) = some-after id (on_state (taught outcome)) (taught-gentle outcome).place id kept.attempts there in
+    IsKept-decides f id way outcome (record kept { attempts = between }) ends attempts learned is more by then (IsKept-settles f id outcome kept old ends between refl settles there h)
 
 -- ---- a message that is not a Validate is sent to all
 

@@ -8,6 +8,7 @@ pub mod TurnOrder
 pub mod NumberOrder
 pub mod ColumnLaws
 pub mod StampLaws
+pub mod ReadingLaws
 pub mod EachMapped
 pub mod FreshClients
 pub mod RoundLaws

@@ -21,7 +21,7 @@ use Rattle.mk_column.specs.ClientsByCode.{not_reading as silent, kept_client, cl
 use Rattle.mk_column.specs.ColumnState.{is_settled, Learning}
 use Rattle.mk_column.specs.Logs.{not_reading, reading_ended}
 use Rattle.mk_column.specs.AttemptsByCode.{BegunView, on_state, is_begun, begun_of, states_of}
-use Rattle.mk_column.specs.ColumnByCode.{ColumnView, Kept, IsKept, column_of, AttemptFits, ClientFits, WorkFits, has_reading, learning_of_kept}
+use Rattle.mk_column.specs.ColumnByCode.{ColumnView, Kept, IsKept, column_of, AttemptFits, ClientFits, MayRead, WorkFits, has_reading, learning_of_kept}
 use Rattle.mk_column.proofs.ColumnLaws.{find-map}
 use Rattle.mk_column.proofs.EachMapped.{Each-map, map-both}
 
@@ -72,11 +72,11 @@ home-quiet n all h = subst IsSome (sym (find-map (λ (c : Client). c.number == n
 
 work-quiet : (n : ℕ) (attempts : List BegunView) (replicas : List Held) (work : KeptWork) → WorkFits n attempts replicas work → WorkFits n (map quiet attempts) replicas work
 work-quiet n attempts replicas KeptIdle h = tt
-work-quiet n attempts replicas (KeptFetching id replica key) h = subst IsSome (sym (begun-quiet id attempts)) (from (begun_of id attempts) h)
+work-quiet n attempts replicas (KeptFetching id replica key) h = subst (MayRead key) (sym (begun-quiet id attempts)) (from (begun_of id attempts) h)
   where
-    from : (o : Option BegunView) → IsSome o → IsSome (option_map quiet o)
-    from None k = absurd (false≢true k)
-    from (Some begun) k = refl
+    from : (o : Option BegunView) → MayRead key o → MayRead key (option_map quiet o)
+    from None k = k
+    from (Some begun) k = k
 work-quiet n attempts replicas (KeptValidating txn replica epoch state) h = h
 work-quiet n attempts replicas (KeptFinishing replica left) h = tt
 

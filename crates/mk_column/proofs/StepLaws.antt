@@ -1,6 +1,7 @@
 -- What a step makes of the tables of a column.
 use Rattle.std.proofs.Common.{◌≡◌, ℕ, Bool, true, ◌&&◌, refl, sym, ap, subst, ◌∙◌, List, [], ◌++◌, Option, Some, None, IsSome}
 use Rattle.std.specs.Prelude.{find, is_some, is_none, option_map, IsSomeAnd}
+use Rattle.std.specs.Option.{option_or}
 use Rattle.std.proofs.lemmas.List.{append-nil}
 use Rattle.mk_lists.specs.Among.{Each}
 use Rattle.mk_lists.specs.Changed.{change}
@@ -21,7 +22,7 @@ use Rattle.mk_column.specs.declared.Step.TheVariants.{Stop, Again, Validate, Rul
 use Rattle.mk_column.specs.ColumnState.Way.{ByVotes, ByAccepts}
 use Rattle.mk_column.specs.Learnings.{learning, by_ruling, by_rule}
 use Rattle.mk_column.specs.Steps.{column_after, on_some, sent_again, ruled, taught, proposing, with_learning}
-use Rattle.mk_column.specs.ColumnByCode.{ColumnView, AttemptFits}
+use Rattle.mk_column.specs.ColumnByCode.{ColumnView, AttemptFits, own_learned}
 use Rattle.mk_column.specs.Conditions.{blocked, is_stamped}
 use Rattle.mk_column.specs.AttemptsByCode.{BegunView, begun_of, is_begun, states_of, change_begun, on_state}
 use Rattle.mk_column.proofs.ColumnLaws.{attempt-found, find-passes, Each-find}
@@ -49,6 +50,10 @@ states-changed id h all = map-change (is_begun id) (on_state h) (is_attempt id) 
 -- the states stay where a flag of an attempt is set
 pub states-kept : (id : TxnId) (g : BegunView → BegunView) (all : List BegunView) → ((b : BegunView) → (g b).state ≡ b.state) → states_of (change_begun id g all) ≡ states_of all
 states-kept id g all keeps = map-kept (is_begun id) g (λ (b : BegunView). b.state) keeps all
+
+-- the states once an own coordinator has learned
+pub states-learned : (id : TxnId) (outcome : Outcome) (all : List BegunView) → states_of (own_learned id outcome all) ≡ change (is_attempt id) (taught outcome) (states_of all)
+states-learned id outcome all = states-kept id (λ b. record b { decided = option_or b.decided (Some outcome) }) (change_begun id (on_state (taught outcome)) all) (λ b. refl) ∙ states-changed id (taught outcome) all
 
 -- the view after a step, by what the step makes of the state
 pub step-view : (old now : ColumnView) (step : Step) (state : ColumnState) → state ≡ column_after old.setting old.state step → old ≡ now

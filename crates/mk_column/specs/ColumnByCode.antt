@@ -1,6 +1,7 @@
 -- What the code keeps of a column, and what contracts see of it.
 use Rattle.std.specs.Prelude.{◌≡◌, ℕ, ◌+◌, ◌<◌, ◌≤◌, ◌^◌, Bool, true, false, ◌==◌, ◌||◌, ◌&&◌, List, [], ◌∷◌, length, map, find, slice_index_or, option_map, Option, None, Some, IsSome, IsSomeAnd}
 use Rattle.std.specs.List.{list_any}
+use Rattle.std.specs.Option.{option_or}
 use Rattle.mk_lists.specs.Among.{Each}
 use Rattle.mk_txn.specs.declared.TxnId.{TxnId}
 use Rattle.mk_txn.specs.declared.Outcome.{Outcome}
@@ -23,10 +24,11 @@ use Rattle.mk_column.specs.declared.learned.Learned.{Learned}
 use Rattle.mk_column.specs.ColumnState.{Setting, ColumnState, Learning, Way, new_column, is_settled}
 use Rattle.mk_column.specs.ColumnState.Way.{ByVotes, ByAccepts, ByPick, ByMoved, ByTelling, ByFinishing}
 use Rattle.mk_column.specs.Replicas.{Held}
-use Rattle.mk_column.specs.Conditions.{is_validate_of}
+use Rattle.mk_column.specs.Conditions.{is_validate_of, may_read}
 use Rattle.mk_column.specs.Learnings.{learning, is_decision_of}
 use Rattle.mk_column.specs.HeldByCode.{work_of}
-use Rattle.mk_column.specs.AttemptsByCode.{BegunView, begun_of, states_of}
+use Rattle.mk_column.specs.AttemptsByCode.{BegunView, begun_of, change_begun, on_state, states_of}
+use Rattle.mk_column.specs.Steps.{taught}
 use Rattle.mk_column.specs.TakeoversByCode.{BackupView, takeovers_of}
 use Rattle.mk_column.specs.ClientsByCode.{client_states, kept_client}
 
@@ -64,6 +66,10 @@ lesson_of id None = []
 -- what was learned
 abbrev pub learning_of_kept : Learned → Learning
 learning_of_kept learned = record { id = learned.id; outcome = learned.outcome; way = way_of learned.way }
+
+-- the attempts once the own coordinator of this one has learned the outcome
+abbrev pub own_learned : TxnId → Outcome → List BegunView → List BegunView
+own_learned id outcome all = change_begun id (λ begun. record begun { decided = option_or begun.decided (Some outcome) }) (change_begun id (on_state (taught outcome)) all)
 
 -- what is kept where a replica finished, and else nothing
 abbrev pub finish_kept : TxnId → Option Outcome → List Learned
@@ -106,10 +112,15 @@ first_decision learned id = option_map (λ l. l.outcome) (find (is_decision_of i
 abbrev pub MayVoteAt : ℕ → TxnId → List Held → Type 0
 MayVoteAt r id replicas = IsSomeAnd (entry_of id (slice_index_or replicas r (record { entries = []; marks = [] })).entries) (λ entry. may_vote entry ≡ true)
 
--- what the key calls under way keep: the attempt that is read for is there, and the entry that is validated may vote
+-- the attempt may read the key
+abbrev pub MayRead : ℕ → Option BegunView → Type 0
+MayRead key begun = IsSomeAnd begun (λ b. may_read key b.state ≡ true)
+
+-- what the key calls under way keep: the attempt that is read for may read the key, and the entry that is validated
+-- may vote
 abbrev pub WorkFits : ℕ → List BegunView → List Held → KeptWork → Type 0
 WorkFits n attempts replicas KeptIdle = Unit {0}
-WorkFits n attempts replicas (KeptFetching id replica key) = IsSome (begun_of id attempts)
+WorkFits n attempts replicas (KeptFetching id replica key) = MayRead key (begun_of id attempts)
 WorkFits n attempts replicas (KeptValidating txn replica epoch state) = (replica < n) × MayVoteAt replica txn.id replicas
 WorkFits n attempts replicas (KeptFinishing replica left) = Unit {0}
 

@@ -1,5 +1,6 @@
 -- A column's state and its twelve steps, lowest first.
 pub mod ColumnState
+pub mod Readings
 pub mod Replicas
 pub mod Answers
 pub mod Learnings

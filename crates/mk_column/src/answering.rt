@@ -1,10 +1,10 @@
 //! Key calls are asked for and answered.
-ghost use Rattle.std.specs.Prelude.{◌≡◌, ◌<◌, true, None, Some, OnOk, OnErr, IsSome};
+ghost use Rattle.std.specs.Prelude.{◌≡◌, ◌<◌, true, None, Some, OnOk, OnErr, IsSomeAnd};
 ghost use Rattle.mk_cell.specs.Acts.{answer_fits};
 ghost use Rattle.mk_cell.specs.declared.Act.TheVariants.{Get};
 ghost use Rattle.mk_column.specs.declared.Step.TheVariants.{Key, Read};
 ghost use Rattle.mk_column.specs.ColumnState.{attempt_of};
-ghost use Rattle.mk_column.specs.Conditions.{blocked as blocked_by};
+ghost use Rattle.mk_column.specs.Conditions.{blocked as blocked_by, may_read};
 ghost use Rattle.mk_column.specs.Steps.{column_after, fetched, answered, is_validating, is_at_end};
 
 use crate::KeyCall;
@@ -45,9 +45,9 @@ impl Column {
         }
     }
 
-    // The value that was asked for is read.
+    // The value that was asked for is read, which the attempt may do.
     fn answer_read(&mut self, id: TxnId, key: u32, answer: Answer) -> Result<(), NoMemory>
-        requires there { IsSome (attempt_of self.old.state id) }
+        requires room { IsSomeAnd (attempt_of self.old.state id) (λ a. may_read key a ≡ true) }
         requires fits { answer_fits Get answer ≡ true }
         ensures ok { OnOk result (self.new ≡ record self.old { state = fetched id key answer self.old.state }) }
         ensures err { OnErr result (self.new ≡ self.old) }

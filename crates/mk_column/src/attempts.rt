@@ -4,6 +4,7 @@ ghost use Rattle.std.specs.Option.{option_or};
 ghost use Rattle.mk_quorum.specs.Sizes.{members};
 ghost use Rattle.mk_coord.specs.declared.Ruling.TheVariants.{Propose};
 ghost use Rattle.mk_coord.specs.Rulings.{ruling as ruling_of};
+ghost use Rattle.mk_column.specs.Conditions.{may_read};
 ghost use Rattle.mk_column.specs.Answers.{attempt_answered};
 ghost use Rattle.mk_column.specs.Steps.{proposing, taught};
 ghost use Rattle.mk_column.specs.Logs.{not_reading};
@@ -130,9 +131,9 @@ impl Attempts {
         self.items[place].learn(outcome);
     }
 
-    /// Joins what was read to the attempt's reads.
+    /// Joins what was read to the attempt's reads, which may take it.
     pub(crate) fn read(&mut self, id: TxnId, item: ReadItem) -> Result<(), NoMemory>
-        requires { IsSome (begun_of id self.old) }
+        requires { IsSomeAnd (begun_of id self.old) (λ begun. may_read item.key begun.state ≡ true) }
         ensures ok { OnOk result (self.new ≡ change_begun id (on_state (λ a. record a { reads = a.reads ++ item ∷ [] })) self.old) }
         ensures err { OnErr result (self.new ≡ self.old) }
     {

@@ -133,8 +133,9 @@ impl Begun {
         self.shown.reads.may_take(key)
     }
 
-    /// Joins what was read to the reads.
+    /// Joins what was read to the reads, which may take it.
     pub(crate) fn read(&mut self, item: ReadItem) -> Result<(), NoMemory>
+        requires { may_read_key item.key self.old.state ≡ true }
         ensures ok { OnOk result (self.new ≡ on_state (λ a. record a { reads = a.reads ++ item ∷ [] }) self.old) }
         ensures err { OnErr result (self.new ≡ self.old) }
     {

@@ -13,7 +13,7 @@ ghost use Rattle.mk_column.specs.Steps.{taught, with_learning, taught_in, heard_
 use crate::begun::taught_by;
 use crate::clients::Client;
 use crate::column::Column;
-use crate::learned::{Learned, Way};
+use crate::learned::{Learned, Way, learn_own};
 use mk_msg::{Body, Moved, Msg};
 use mk_txn::{NoMemory, Outcome, TxnId};
 
@@ -35,13 +35,13 @@ impl Column {
         ensures ok { OnOk result (self.new ≡ record self.old { state = with_learning (learning id (way_of way) outcome) (change_attempt id (taught outcome) self.old.state) }) }
         ensures err { OnErr result (self.new ≡ self.old) }
     {
-        self.learned.reserve(1)?;
-        self.settled.settle(id)?;
-        self.attempts.learn(id, outcome);
-        self.attempts.decide(id, outcome);
-        if self.learned.push(Learned { id, outcome, way }).is_err() {
-            unreachable!();
-        }
+        let lesson = Learned { id, outcome, way };
+        learn_own(
+            &mut self.attempts,
+            &mut self.settled,
+            &mut self.learned,
+            lesson,
+        )?;
         Ok(())
     }
 

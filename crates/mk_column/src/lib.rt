@@ -53,15 +53,19 @@ pub struct Reads {
 impl Model for Reads {
     ghost use Rattle.std.specs.Prelude.{List};
     ghost use Rattle.mk_txn.specs.declared.ReadItem.{ReadItem};
+    ghost use Rattle.mk_column.specs.Readings.{ReadsFit};
 
     ghost Value = { List ReadItem };
 
     ghost view = { λ reads. reads.items.items };
+
+    ghost invariant = { λ reads. ReadsFit reads.items.items };
 }
 
 impl Reads {
-    ghost use Rattle.std.specs.Prelude.{◌≡◌, ◌&&◌, ◌==◌, ◌++◌, ◌∷◌, [], not, nat_lt, length, OnOk, OnErr};
+    ghost use Rattle.std.specs.Prelude.{◌≡◌, ◌==◌, ◌++◌, ◌∷◌, [], length, true, OnOk, OnErr};
     ghost use Rattle.std.specs.List.{list_any};
+    ghost use Rattle.mk_column.specs.Readings.{may_join};
 
     fn new(alloc: Global) -> Reads
         ensures { result ≡ [] }
@@ -79,7 +83,7 @@ impl Reads {
 
     // Whether the key was not read yet, and fewer than 16 were.
     fn may_take(&self, key: u32) -> bool
-        ensures { result ≡ (not (list_any (λ item. item.key == key) self.now) && nat_lt (length self.now) 16) }
+        ensures { result ≡ may_join key self.now }
     {
         !self.has(key) && self.items.len() < 16
     }
@@ -97,6 +101,7 @@ impl Reads {
     }
 
     fn push(&mut self, item: ReadItem) -> Result<(), NoMemory>
+        requires { may_join item.key self.old ≡ true }
         ensures ok { OnOk result (self.new ≡ self.old ++ item ∷ []) }
         ensures err { OnErr result (self.new ≡ self.old) }
     {

@@ -1,14 +1,16 @@
 //! An attempt gets its stamp and its writes.
-ghost use Rattle.std.specs.Prelude.{◌≡◌, None, OnOk, OnErr};
+ghost use Rattle.std.specs.Prelude.{◌≡◌, ◌≤◌, true, length, None, IfOk, OnOk, OnErr};
+ghost use Rattle.mk_txn.specs.Transactions.{is_above_reads, are_distinct, write_keys};
 ghost use Rattle.mk_column.specs.declared.Step.TheVariants.{Stamp as StampStep};
 ghost use Rattle.mk_column.specs.Conditions.{blocked as blocked_by};
 ghost use Rattle.mk_column.specs.Steps.{column_after};
 ghost use Rattle.mk_column.specs.ClientsByCode.{client_stamped};
 
-use crate::Writes;
 use crate::clients::Client;
 use crate::column::Column;
-use mk_txn::{NoMemory, Txn, TxnId};
+use crate::{Reads, Writes};
+use mk_txn::{NoMemory, Stamp, Txn, TxnError, TxnId, WriteItem};
+use std::alloc::Global;
 
 impl Column {
     // The transaction of the attempt is made, and its reading ends.
@@ -23,13 +25,32 @@ impl Column {
         let stamp = begun
             .next_stamp(before.number, before.last_time, clock)
             .unwrap();
-        let reads = begun.shown().reads.as_slice();
-        let Ok(txn) = Txn::new(alloc, id, stamp, reads, writes.as_slice()) else {
-            return Err(NoMemory);
-        };
+        let txn = txn_of(alloc, id, stamp, &begun.shown().reads, writes.as_slice())?;
         self.attempts.stamp(id, txn);
         self.clients.put(after_stamp(&before, stamp.time));
         Ok(())
+    }
+}
+
+// The transaction of these reads and writes, which fit, under a stamp above the reads.
+fn txn_of(
+    alloc: Global,
+    id: TxnId,
+    stamp: Stamp,
+    reads: &Reads,
+    writes: &[WriteItem],
+) -> Result<Txn, NoMemory>
+    requires above { is_above_reads stamp reads.now ≡ true }
+    requires few { length writes.now ≤ 16 }
+    requires distinct { are_distinct (write_keys writes.now) ≡ true }
+    ensures { IfOk result (λ txn. txn ≡ record { id = id; stamp = stamp; reads = reads.now; writes = writes.now }) }
+{
+    match Txn::new(alloc, id, stamp, reads.items.as_slice(), writes) {
+        Ok(txn) => Ok(txn),
+        Err(TxnError::NoMemory) => Err(NoMemory),
+        Err(TxnError::TooMany) => unreachable!(),
+        Err(TxnError::Repeated(_)) => unreachable!(),
+        Err(TxnError::NotAbove(_)) => unreachable!(),
     }
 }
 

@@ -17,7 +17,7 @@ ghost use Rattle.mk_column.specs.ColumnByCode.{way_of};
 
 use crate::backup::{Backup, Turn};
 use crate::column::Column;
-use crate::learned::{Learned, Way};
+use crate::learned::{Learned, Way, learn_own};
 use crate::sending::send_to_all;
 use mk_coord::Ruling;
 use mk_msg::Body;
@@ -84,13 +84,13 @@ impl Column {
         ensures err { OnErr result (self.new ≡ self.old) }
     {
         self.link.reserve(self.size.n())?;
-        self.learned.reserve(1)?;
-        self.settled.settle(id)?;
-        self.attempts.learn(id, outcome);
-        self.attempts.decide(id, outcome);
-        if self.learned.push(Learned { id, outcome, way }).is_err() {
-            unreachable!();
-        }
+        let lesson = Learned { id, outcome, way };
+        learn_own(
+            &mut self.attempts,
+            &mut self.settled,
+            &mut self.learned,
+            lesson,
+        )?;
         let body = Body::Decide(outcome);
         send_to_all(&mut self.link, self.size, epoch, id, 0, body);
         Ok(())

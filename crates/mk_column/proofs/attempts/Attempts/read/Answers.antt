@@ -1,14 +1,24 @@
-use Rattle.std.proofs.Common.{rules, ◌≡◌, ◌++◌, ◌∷◌, [], ap, ◌∙◌, refl}
-use Rattle.std.specs.Prelude.{slice_set}
+use Rattle.std.proofs.Common.{rules, ◌≡◌, ◌++◌, ◌∷◌, [], Some, true, ap, subst, ◌∙◌, refl}
+use Rattle.std.specs.Prelude.{slice_set, IsSomeAnd}
 use Rattle.mk_txn.specs.Transactions.{same_id, id_cmp}
 use Rattle.mk_txn.proofs.IdOrder.{same_id-tells, same_id-itself, id_cmp-equal}
 use Rattle.mk_txn.specs.declared.ReadItem.{ReadItem}
-use Rattle.mk_column.specs.AttemptsByCode.{BegunView, begun_id, on_state, change_begun}
-use Rattle.mk_column.proofs.TableLaws.{written-changes, written-same, IsIndexed-changed}
+use Rattle.mk_column.specs.Conditions.{may_read}
+use Rattle.mk_column.specs.AttemptsByCode.{BegunView, begun_id, begun_of, on_state, change_begun}
+use Rattle.mk_column.proofs.TableLaws.{some_there, written-changes, written-same, found-there, IsIndexed-changed}
 use Rattle.mk_column.proofs.attempts.Attempts.read.Goals as goal
 
 abbrev step : ReadItem → BegunView → BegunView
 step item = on_state (λ a. record a { reads = a.reads ++ item ∷ [] })
+
+pub place-place-requires : goal.place-place-requires
+place-place-requires c = some_there (begun_of c.args.id c.args.self.now) _ c.requires
+
+pub read-requires : goal.read-requires
+read-requires c =
+    let there : begun_of c.args.id c.args.self.now ≡ Some c.index_mut.result.now =
+    found-there same_id id_cmp begun_id same_id-tells same_id-itself id_cmp-equal c.args.id c.self.inside.items.items c.args.self.now c.place-place.result c.index_mut.result.now c.self.view_is c.index_mut.ensures.value c.place-place.ensures.found in
+    subst (λ o. IsSomeAnd o (λ (begun : BegunView). may_read c.args.item.key begun.state ≡ true)) there c.requires
 
 pub invariant_of-self-2 : goal.invariant_of-self-2
 invariant_of-self-2 c =

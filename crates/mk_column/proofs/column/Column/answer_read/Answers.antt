@@ -1,4 +1,4 @@
-use Rattle.std.proofs.Common.{◌≡◌, sym, ap, ◌∙◌, refl}
+use Rattle.std.proofs.Common.{◌≡◌, sym, ap, ◌∙◌}
 use Rattle.mk_lists.specs.Changed.{change}
 use Rattle.mk_cell.specs.declared.Answer.{Answer}
 use Rattle.mk_cell.specs.declared.Answer.TheVariants.{Version}
@@ -8,18 +8,16 @@ use Rattle.mk_column.specs.ColumnState.Work.{Idle}
 use Rattle.mk_column.specs.AttemptsByCode.{states_of}
 use Rattle.mk_column.specs.Steps.{fetched, with_read}
 use Rattle.mk_column.specs.ColumnByCode.{ColumnView}
-use Rattle.mk_column.proofs.StepLaws.{begun-there, states-changed}
-use Rattle.mk_column.proofs.KeptLaws.{IsKept-gentle}
-use Rattle.mk_column.proofs.AnswerLaws.{IsKept-idle, read-gentle}
+use Rattle.mk_column.proofs.StepLaws.{states-changed}
+use Rattle.mk_column.proofs.AnswerLaws.{IsKept-read, room-kept}
 use Rattle.mk_column.proofs.column.Column.answer_read.Goals as goal
 
 pub read-requires : goal.read-requires
-read-requires c = begun-there c.args.id c.self.inside.attempts c.args.self.now.state (ap (λ column. column.state.attempts) (sym c.self.view_is)) c.requires.there
+read-requires c = room-kept c.args.key c.args.id c.self.inside.attempts c.args.self.now.state (ap (λ column. column.state.attempts) (sym c.self.view_is)) c.requires.room
 
 pub invariant_of-self-2 : goal.invariant_of-self-2
 invariant_of-self-2 c =
-    IsKept-idle c.self.inside.size _ c.self.inside.settled
-    (IsKept-gentle c.self.inside.size c.args.id _ _ c.self.inside.settled c.read.new.self (read-gentle (record { key = c.args.key; version = c.in-Version.version; value = c.in-Version.value })) (λ b. refl) c.in_ok-read.ensures.ok c.self.invariant)
+    IsKept-read c.self.inside.size c.args.id (record { key = c.args.key; version = c.in-Version.version; value = c.in-Version.value }) _ c.self.inside.settled c.read.new.self c.in_ok-read.ensures.ok c.self.invariant
 
 pub returns-clause-ok : goal.returns-clause-ok
 returns-clause-ok c =

@@ -8,7 +8,7 @@ use Rattle.mk_column.specs.AttemptsByCode.{states_of}
 use Rattle.mk_column.specs.ColumnByCode.{ColumnView, learning_of_kept}
 use Rattle.mk_column.proofs.KeptLaws.{IsKept-gentle}
 use Rattle.mk_column.proofs.StepLaws.{begun-there, states-changed}
-use Rattle.mk_column.proofs.HearLaws.{count-gentle, count-settled, count-there}
+use Rattle.mk_column.proofs.HearLaws.{count-gentle, count-reads, count-settled, count-there}
 use Rattle.mk_column.proofs.column.Column.count.Goals as goal
 
 pub answer-requires : goal.answer-requires
@@ -19,7 +19,7 @@ answer-requires c =
 
 pub invariant_of-self : goal.invariant_of-self
 invariant_of-self c =
-    IsKept-gentle c.self.inside.size c.args.id _ _ c.self.inside.settled c.answer.new.self (count-gentle c.args.replica c.args.body.now c.requires.counts) (count-settled c.args.replica c.args.body.now c.requires.counts) c.answer.ensures c.self.invariant
+    IsKept-gentle c.self.inside.size c.args.id _ _ c.self.inside.settled c.answer.new.self (count-gentle c.args.replica c.args.body.now c.requires.counts) (count-reads c.args.replica c.args.body.now c.requires.counts) (count-settled c.args.replica c.args.body.now c.requires.counts) c.answer.ensures c.self.invariant
 
 pub returns : goal.returns
 returns c =

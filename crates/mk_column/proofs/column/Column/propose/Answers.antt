@@ -18,7 +18,7 @@ propose-requires c =
     (subst (λ (column : ColumnView). IsSomeAnd (attempt_of column.state c.args.id) (λ a. ruling column.setting.faults a.coord ≡ Propose c.args.outcome)) (sym c.self.view_is) c.requires)
 
 pub invariant_of-self : goal.invariant_of-self
-invariant_of-self c = IsKept-gentle _ c.args.id _ _ _ _ (proposing-gentle c.args.outcome) (λ b. refl) c.propose.ensures c.self.invariant
+invariant_of-self c = IsKept-gentle _ c.args.id _ _ _ _ (proposing-gentle c.args.outcome) (λ b. refl) (λ b. refl) c.propose.ensures c.self.invariant
 
 pub returns : goal.returns
 returns c =

@@ -1,4 +1,4 @@
-use Rattle.std.proofs.Common.{◌≡◌, None, Some, sym, ap, subst, ◌∙◌}
+use Rattle.std.proofs.Common.{◌≡◌, None, Some, refl, sym, ap, subst, ◌∙◌}
 use Rattle.std.specs.Prelude.{IsSome, option_copied}
 use Rattle.mk_column.specs.contracts.column.Column.{the_view}
 use Rattle.mk_column.specs.declared.Attempt.{Attempt}
@@ -10,7 +10,7 @@ use Rattle.mk_column.proofs.Frames.{enabled}
 use Rattle.mk_column.proofs.StepLaws.{step-view}
 use Rattle.mk_column.proofs.BeginLaws.{some-of-copied}
 use Rattle.mk_column.proofs.StampedLaws.{stamp-begun}
-use Rattle.mk_column.proofs.AnswerLaws.{IsKept-worked, read-state}
+use Rattle.mk_column.proofs.AnswerLaws.{IsKept-worked, read-state, room-kept, room-passes}
 use Rattle.mk_column.proofs.column.Column.read.Goals as goal
 
 pub unwrap-requires : goal.unwrap-requires
@@ -23,7 +23,7 @@ pub invariant_of-self : goal.invariant_of-self
 invariant_of-self c =
     let kept : Kept = record { clients = c.self.inside.clients; attempts = c.self.inside.attempts; takeovers = c.self.inside.takeovers; replicas = c.self.inside.replicas.items; link = c.self.inside.link.messages; work = c.self.inside.work; learned = c.self.inside.learned.items } in
     let passed = enabled (the_view c.self.inside).setting (the_view c.self.inside).state (Read c.args.id c.args.key) (subst (λ column. blocked column.setting column.state (Read c.args.id c.args.key) ≡ None) (sym c.self.view_is) c.requires) in
-    IsKept-worked c.self.inside.size kept c.self.inside.settled _ c.self.invariant (stamp-begun kept c.args.id passed.1.0)
+    IsKept-worked c.self.inside.size kept c.self.inside.settled _ c.self.invariant (room-kept c.args.key c.args.id c.self.inside.attempts (the_view c.self.inside).state refl (room-passes c.args.key _ passed.1.1.1.0))
 
 pub returns : goal.returns
 returns c =

@@ -1,8 +1,8 @@
 use Rattle.std.proofs.Common.{◌≡◌, false, ◌≤◌, ◌^◌, None, Some, sym, ap, subst, ◌∙◌, refl}
-use Rattle.std.specs.Prelude.{option_copied, IsSome}
+use Rattle.std.specs.Prelude.{option_copied, length, IsSome}
 use Rattle.mk_txn.specs.declared.Stamp.{Stamp as StampType}
 use Rattle.mk_txn.specs.Stamps.{next_stamp_of}
-use Rattle.mk_txn.specs.Transactions.{Transaction}
+use Rattle.mk_txn.specs.Transactions.{Transaction, are_distinct, is_above_reads, write_keys}
 use Rattle.mk_column.specs.contracts.column.Column.{the_view}
 use Rattle.mk_column.specs.declared.clients.Client.{Client}
 use Rattle.mk_column.specs.declared.Attempt.{Attempt}
@@ -13,6 +13,7 @@ use Rattle.mk_column.specs.ClientsByCode.{kept_client, client_stamped}
 use Rattle.mk_column.specs.AttemptsByCode.{begun_of, change_begun, on_state}
 use Rattle.mk_column.specs.ColumnByCode.{Kept}
 use Rattle.mk_column.proofs.Frames.{enabled}
+use Rattle.mk_column.proofs.ReadingLaws.{next-above, fit-few, fit-distinct}
 use Rattle.mk_column.proofs.StepLaws.{step-view}
 use Rattle.mk_column.proofs.BeginLaws.{some-of-copied}
 use Rattle.mk_column.proofs.StampedLaws.{IsStamped, IsKept-stamped, stamp-state, stamp-begun, stamp-reads, stamp-client, stamp-last, stamp-there, stamp-in_time, stamped-one, client-number}
@@ -44,6 +45,21 @@ unwrap-stamp-requires c =
     let client_found : kept_client c.args.id.client c.self.inside.clients ≡ Some c.unwrap.result.now = sym c.find-2.ensures ∙ ap option_copied c.unwrap.ensures in
     subst IsSome (sym c.next_stamp.ensures) (stamp-there kept c.args.id c.unwrap-begun.result.now c.unwrap.result.now c.args.clock found client_found passed.1.1.1.0)
 
+pub txn_of-requires-clause-above : goal.txn_of-requires-clause-above
+txn_of-requires-clause-above c =
+    ap (λ (a : Attempt). is_above_reads c.unwrap-stamp.result a.reads) c.shown.ensures
+    ∙ next-above c.unwrap.result.now.number c.unwrap.result.now.last_time c.args.clock c.unwrap-begun.result.now.state.reads c.unwrap-stamp.result (sym c.next_stamp.ensures ∙ c.unwrap-stamp.ensures)
+
+pub txn_of-requires-clause-few : goal.txn_of-requires-clause-few
+txn_of-requires-clause-few c =
+    let passed = enabled (the_view c.self.inside).setting (the_view c.self.inside).state (StampStep c.args.id c.args.clock c.args.writes.now) (subst (λ column. blocked column.setting column.state (StampStep c.args.id c.args.clock c.args.writes.now) ≡ None) (sym c.self.view_is) c.requires) in
+    subst (λ writes. length writes ≤ 16) (sym c.as_slice.ensures) (fit-few c.self.inside.keys c.args.writes.now passed.1.1.0)
+
+pub txn_of-requires-clause-distinct : goal.txn_of-requires-clause-distinct
+txn_of-requires-clause-distinct c =
+    let passed = enabled (the_view c.self.inside).setting (the_view c.self.inside).state (StampStep c.args.id c.args.clock c.args.writes.now) (subst (λ column. blocked column.setting column.state (StampStep c.args.id c.args.clock c.args.writes.now) ≡ None) (sym c.self.view_is) c.requires) in
+    ap (λ writes. are_distinct (write_keys writes)) c.as_slice.ensures ∙ fit-distinct c.self.inside.keys c.args.writes.now passed.1.1.0
+
 pub put-requires : goal.put-requires
 put-requires c =
     let kept : Kept = record { clients = c.self.inside.clients; attempts = c.self.inside.attempts; takeovers = c.self.inside.takeovers; replicas = c.self.inside.replicas.items; link = c.self.inside.link.messages; work = c.self.inside.work; learned = c.self.inside.learned.items } in
@@ -58,8 +74,8 @@ invariant_of-self c =
     let found : begun_of c.args.id c.self.inside.attempts ≡ Some c.unwrap-begun.result.now = sym c.find.ensures ∙ ap option_copied c.unwrap-begun.ensures in
     let client_found : kept_client c.args.id.client c.self.inside.clients ≡ Some c.unwrap.result.now = sym c.find-2.ensures ∙ ap option_copied c.unwrap.ensures in
     let stamp : next_stamp_of c.unwrap.result.now.number c.unwrap.result.now.last_time c.args.clock c.unwrap-begun.result.now.state.reads ≡ Some c.unwrap-stamp.result = sym c.next_stamp.ensures ∙ c.unwrap-stamp.ensures in
-    let txn = c.in-Ok.txn in
-    let is : txn ≡ record { id = c.args.id; stamp = c.unwrap-stamp.result; reads = c.as_slice-reads.result.now; writes = c.as_slice.result.now } = c.in-Ok.ensures.value in
+    let txn = c.in_ok-txn.txn in
+    let is : txn ≡ record { id = c.args.id; stamp = c.unwrap-stamp.result; reads = c.shown.result.now.reads; writes = c.as_slice.result.now } = c.in_ok-txn.ensures in
     let of_stamp : txn.stamp ≡ c.unwrap-stamp.result = ap (λ (t : Transaction). t.stamp) is in
     let s : IsStamped kept c.args.id c.unwrap-begun.result.now c.unwrap.result.now c.after_stamp.result txn = record {
       idle = passed.0;
@@ -79,8 +95,8 @@ returns-clause-ok c =
     let found : begun_of c.args.id c.self.inside.attempts ≡ Some c.unwrap-begun.result.now = sym c.find.ensures ∙ ap option_copied c.unwrap-begun.ensures in
     let client_found : kept_client c.args.id.client c.self.inside.clients ≡ Some c.unwrap.result.now = sym c.find-2.ensures ∙ ap option_copied c.unwrap.ensures in
     let stamp : next_stamp_of c.unwrap.result.now.number c.unwrap.result.now.last_time c.args.clock c.unwrap-begun.result.now.state.reads ≡ Some c.unwrap-stamp.result = sym c.next_stamp.ensures ∙ c.unwrap-stamp.ensures in
-    let txn = c.in-Ok.txn in
-    let is : txn ≡ record { id = c.args.id; stamp = c.unwrap-stamp.result; reads = c.as_slice-reads.result.now; writes = c.as_slice.result.now } = c.in-Ok.ensures.value in
+    let txn = c.in_ok-txn.txn in
+    let is : txn ≡ record { id = c.args.id; stamp = c.unwrap-stamp.result; reads = c.shown.result.now.reads; writes = c.as_slice.result.now } = c.in_ok-txn.ensures in
     let of_stamp : txn.stamp ≡ c.unwrap-stamp.result = ap (λ (t : Transaction). t.stamp) is in
     let s : IsStamped kept c.args.id c.unwrap-begun.result.now c.unwrap.result.now c.after_stamp.result txn = record {
       idle = passed.0;
@@ -91,7 +107,7 @@ returns-clause-ok c =
       in_time = subst (λ (t : StampType). t.time ≤ 2 ^ 62) (sym of_stamp) (stamp-in_time c.unwrap.result.now.number c.unwrap.result.now.last_time c.args.clock c.unwrap-begun.result.now.state.reads c.unwrap-stamp.result stamp);
       named = ap (λ (t : Transaction). t.id) is;
     } in
-    let one = stamped-one kept c.args.id c.unwrap-begun.result.now c.unwrap-stamp.result c.as_slice-reads.result.now c.args.writes.now c.as_slice.result.now txn found is (c.as_slice-reads.ensures ∙ ap (λ (a : Attempt). a.reads) c.shown.ensures) c.as_slice.ensures in
+    let one = stamped-one kept c.args.id c.unwrap-begun.result.now c.unwrap-stamp.result c.shown.result.now.reads c.args.writes.now c.as_slice.result.now txn found is (ap (λ (a : Attempt). a.reads) c.shown.ensures) c.as_slice.ensures in
     let changed : c.stamp.new.self ≡ change_begun c.args.id (on_state (with_txn txn.stamp c.args.writes.now)) c.self.inside.attempts =
     c.stamp.ensures.as_found (on_state (with_txn txn.stamp c.args.writes.now)) c.unwrap-begun.result.now found (ap (λ t. on_state (λ a. record a { reading = false; txn = Some t }) c.unwrap-begun.result.now) one) in
     step-view (the_view c.self.inside) c.args.self.now (StampStep c.args.id c.args.clock c.args.writes.now) _

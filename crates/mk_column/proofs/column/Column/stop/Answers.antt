@@ -11,7 +11,7 @@ stop-requires c =
     begun-there c.args.id c.self.inside.attempts c.args.self.now.state (ap (λ column. column.state.attempts) (sym c.self.view_is)) (stop-there c.args.self.now.setting c.args.self.now.state c.args.id c.requires)
 
 pub invariant_of-self : goal.invariant_of-self
-invariant_of-self c = IsKept-gentle _ c.args.id _ _ _ _ stop-gentle (λ b. refl) c.stop.ensures c.self.invariant
+invariant_of-self c = IsKept-gentle _ c.args.id _ _ _ _ stop-gentle (λ b. refl) (λ b. refl) c.stop.ensures c.self.invariant
 
 pub returns : goal.returns
 returns c =
