@@ -1,5 +1,6 @@
-use super::{begin, begin_at, blocks, column_of, does, fresh, one_write, read_of, refuses, view};
-use super::{FIVE, ID};
+use super::{
+    FIVE, ID, begin, begin_at, blocks, column_of, does, fresh, one_write, read_of, refuses, view,
+};
 use crate::{Column, Phase, Step};
 use mk_txn::TxnId;
 use std::alloc::Global;

@@ -1,5 +1,4 @@
-use super::{ID, TEN};
-use super::{answers, fresh, refuses_own, rule, stamp, take, validate, votes};
+use super::{ID, TEN, answers, fresh, refuses_own, rule, stamp, take, validate, votes};
 use crate::Column;
 use mk_cell::{Act, Answer};
 use mk_txn::{Outcome, Value, Vote};

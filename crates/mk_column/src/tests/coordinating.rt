@@ -1,7 +1,6 @@
-use super::{FIVE, ID};
 use super::{
-    begin, checks, does, fresh, one_write, refuses, refuses_own, rule, stamp, stamping, take,
-    validate, votes,
+    FIVE, ID, begin, checks, does, fresh, one_write, refuses, refuses_own, rule, stamp, stamping,
+    take, validate, votes,
 };
 use crate::{Column, Step};
 use mk_msg::MsgKind;

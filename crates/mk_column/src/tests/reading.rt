@@ -1,7 +1,6 @@
-use super::{FIVE, ID};
 use super::{
-    answers, begin, column_over, does, fresh, no_writes, one_write, read_of, refuses, serving,
-    stamping, three,
+    FIVE, ID, answers, begin, column_over, does, fresh, no_writes, one_write, read_of, refuses,
+    serving, stamping, three,
 };
 use crate::{Column, KeyCall, Step, Writes};
 use mk_cell::{Act, Answer};

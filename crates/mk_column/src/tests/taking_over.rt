@@ -1,6 +1,5 @@
-use super::ID;
 use super::{
-    column_of, does, fresh, later, learned, next_round, refuses, serving, stamp, takes, three,
+    ID, column_of, does, fresh, later, learned, next_round, refuses, serving, stamp, takes, three,
     validate, view,
 };
 use crate::{Column, Phase, ReplicaView, Step};
@@ -89,7 +88,11 @@ fn left_behind(
     second: ReplicaView,
 ) -> Result<Column, Fail> {
     let mut column = sent(rt, alloc)?;
-    next_round(rt, &mut column, three(alloc, first, second, serving(alloc))?);
+    next_round(
+        rt,
+        &mut column,
+        three(alloc, first, second, serving(alloc))?,
+    );
     does(rt, &mut column, takeover(2));
     takes(rt, &mut column, &[4, 5, 7, 8]);
     Ok(column)

@@ -1,5 +1,4 @@
-use super::ID;
-use super::{column_of, later, learned, refuses, refuses_own, serving, stamp, take, validate};
+use super::{ID, column_of, later, learned, refuses, refuses_own, serving, stamp, take, validate};
 use crate::{Column, Step};
 use mk_msg::{Body, Moved, Msg, MsgKind};
 use mk_txn::{Known, Outcome};
