@@ -4,14 +4,15 @@ use Rattle.std.specs.Prelude.{flat_map}
 use Rattle.mk_lists.specs.Among.{Among, Each, Each-among}
 use Rattle.mk_txn.specs.declared.Stamp.{Stamp}
 use Rattle.mk_txn.specs.declared.TxnId.{TxnId}
-use Rattle.mk_txn.specs.MarkMaps.{covers}
+use Rattle.mk_txn.specs.MarkMaps.{MarkMap, covers}
 use Rattle.mk_txn.specs.Transactions.{Transaction, AreCoherent}
 use Rattle.mk_record.specs.declared.Entry.{Entry}
 use Rattle.mk_merge.specs.Bases.{empty_base}
+use Rattle.mk_merge.specs.Rebuilding.{NamesBelow}
 use Rattle.mk_merge.specs.Merging.{merged}
 use Rattle.mk_merge.specs.Promises.{PromiseState, ArePromises, EntryFits, promised_txns}
 use Rattle.mk_merge.proofs.Examples.{fits-empty}
-use Rattle.mk_snap.specs.Rows.{reader, writer, conflicting, early, late, second, finished, covered, adopted_by_two, hinted, unhinted}
+use Rattle.mk_snap.specs.Rows.{reader, writer, conflicting, early, late, second, finished, two_reports, adopted_by_two, hinted, silent, unhinted}
 
 -- transactions that are each one of two
 two-coherent : (a b : Transaction) (all : List Transaction) → (a.id ≡ b.id → ⊥) → (a.stamp ≡ b.stamp → ⊥) → Each (λ t. (t ≡ a) ⊎ (t ≡ b)) all → AreCoherent all
@@ -75,17 +76,17 @@ attempts-coherent = two-coherent early second (early ∷ second ∷ early ∷ se
     (λ e. let k : early.stamp.time ≡ second.stamp.time = ap (λ (s : Stamp). s.time) e in omega (arith, k))
     (inl refl, (inr refl, (inl refl, (inr refl, tt))))
 
-pub covered-asked : ArePromises covered
-covered-asked = record {
+pub reports-asked : (first other : MarkMap) → ArePromises (two_reports first other)
+reports-asked first other = record {
   distinct_replicas = ((λ a. elim a [ inl e ↦ absurd (omega (arith, e)) | inr n ↦ n ]), ((λ a. a), tt));
   distinct_ids = (((λ a. elim a [ inl e ↦ absurd (attempts-apart (sym e)) | inr n ↦ n ]), ((λ a. a), tt)), (((λ a. elim a [ inl e ↦ absurd (attempts-apart (sym e)) | inr n ↦ n ]), ((λ a. a), tt)), tt));
-  one_base = one-base covered (refl, (refl, tt));
+  one_base = one-base (two_reports first other) (refl, (refl, tt));
   coherent = attempts-coherent;
   entries_fit = ((fits _ refl, (fits _ refl, tt)), ((fits _ refl, (fits _ refl, tt)), tt));
 }
 
-pub adopted-asked : ArePromises (adopted_by_two (merged 1 1 covered))
-adopted-asked = record {
+pub adopted-asked : (first other : MarkMap) → ArePromises (adopted_by_two (merged 1 1 (two_reports first other)))
+adopted-asked first other = record {
   distinct_replicas = ((λ a. elim a [ inl e ↦ absurd (omega (arith, e)) | inr n ↦ n ]), ((λ a. a), tt));
   distinct_ids = (tt, (tt, tt));
   one_base = λ p q a b e. same p a ∙ sym (same q b);
@@ -93,8 +94,8 @@ adopted-asked = record {
   entries_fit = (tt, (tt, tt));
 }
   where
-    same : (p : PromiseState) → Among p (adopted_by_two (merged 1 1 covered)) → p.base ≡ merged 1 1 covered
-    same p a = Each-among (λ (s : PromiseState). s.base ≡ merged 1 1 covered) p (adopted_by_two (merged 1 1 covered)) (refl, (refl, tt)) a
+    same : (p : PromiseState) → Among p (adopted_by_two (merged 1 1 (two_reports first other))) → p.base ≡ merged 1 1 (two_reports first other)
+    same p a = Each-among (λ (s : PromiseState). s.base ≡ merged 1 1 (two_reports first other)) p (adopted_by_two (merged 1 1 (two_reports first other))) (refl, (refl, tt)) a
 
 -- one transaction, reported repeatedly
 one-coherent : (all : List Transaction) → Each (λ (t : Transaction). t ≡ early) all → AreCoherent all
@@ -106,10 +107,19 @@ one-coherent all h = record {
 pub hinted-asked : ArePromises hinted
 hinted-asked = record {
   distinct_replicas = ((λ a. elim a [ inl e ↦ absurd (omega (arith, e)) | inr b ↦ elim b [ inl e ↦ absurd (omega (arith, e)) | inr n ↦ n ] ]), ((λ a. elim a [ inl e ↦ absurd (omega (arith, e)) | inr n ↦ n ]), ((λ a. a), tt)));
-  distinct_ids = (((λ a. a), tt), (((λ a. a), tt), (tt, tt)));
+  distinct_ids = (((λ a. a), tt), (((λ a. a), tt), (((λ a. a), tt), tt)));
   one_base = one-base hinted (refl, (refl, (refl, tt)));
-  coherent = one-coherent (flat_map promised_txns hinted) (refl, (refl, tt));
-  entries_fit = ((fits _ refl, tt), ((fits _ refl, tt), (tt, tt)));
+  coherent = one-coherent (flat_map promised_txns hinted) (refl, (refl, (refl, tt)));
+  entries_fit = ((fits _ refl, tt), ((fits _ refl, tt), ((fits _ refl, tt), tt)));
+}
+
+pub silent-asked : ArePromises silent
+silent-asked = record {
+  distinct_replicas = ((λ a. elim a [ inl e ↦ absurd (omega (arith, e)) | inr n ↦ n ]), ((λ a. a), tt));
+  distinct_ids = (tt, (tt, tt));
+  one_base = one-base silent (refl, (refl, tt));
+  coherent = one-coherent (flat_map promised_txns silent) tt;
+  entries_fit = (tt, (tt, tt));
 }
 
 pub unhinted-asked : ArePromises unhinted
@@ -120,3 +130,10 @@ unhinted-asked = record {
   coherent = one-coherent (flat_map promised_txns unhinted) (refl, tt);
   entries_fit = (tt, ((fits _ refl, tt), tt));
 }
+
+-- neither base names a key above 1
+pub reports-name : (first other : MarkMap) → NamesBelow 2 (merged 1 1 (two_reports first other))
+reports-name first other = (refl, (refl, tt))
+
+pub adopted-name : (first other : MarkMap) → NamesBelow 2 (merged 1 3 (adopted_by_two (merged 1 1 (two_reports first other))))
+adopted-name first other = (refl, (refl, tt))

@@ -1,5 +1,5 @@
 -- Promises drawn from the pool meet the conditions of a merge, and its base has transactions of the pool alone.
-use Rattle.std.proofs.Common.{◌≡◌, ℕ, zero, suc, ◌+◌, ◌*◌, Bool, true, false, not, ◌||◌, ◌==◌, refl, sym, ap, subst, ◌∙◌, inl, inr, List, [], ◌∷◌, ◌++◌, map, filter, take, Result, Ok, Err, arith}
+use Rattle.std.proofs.Common.{◌≡◌, ◌<◌, ℕ, zero, suc, ◌+◌, ◌*◌, Bool, true, false, not, ◌||◌, ◌==◌, refl, sym, ap, subst, ◌∙◌, inl, inr, List, [], ◌∷◌, ◌++◌, map, filter, take, Result, Ok, Err, arith}
 use Rattle.std.specs.Prelude.{flat_map, IfOk}
 use Rattle.std.specs.List.{list_any}
 use Rattle.std.proofs.lemmas.Bool.{false≢true}
@@ -7,20 +7,18 @@ use Rattle.std.proofs.lemmas.Bool.Decides.{nat_tests}
 use Rattle.mk_lists.specs.Among.{Among, Each, AllDistinct, Each-among, Each-append, Each-weaker, Among-append, Among-append_left, Among-append_right}
 use Rattle.mk_txn.specs.declared.TxnId.{TxnId}
 use Rattle.mk_txn.specs.declared.Stamp.{Stamp}
-use Rattle.mk_txn.specs.MarkMaps.{covers}
 use Rattle.mk_txn.specs.Transactions.{Transaction, AreCoherent, same_id, are_distinct}
 use Rattle.mk_record.specs.declared.Entry.{Entry}
 use Rattle.mk_merge.specs.declared.Fated.{Fated}
 use Rattle.mk_merge.specs.declared.Promise.{Promise}
-use Rattle.mk_merge.specs.Bases.{BaseState, empty_base}
+use Rattle.mk_merge.specs.Bases.{BaseState}
+use Rattle.mk_merge.specs.Rebuilding.{names_below, NamesBelow}
 use Rattle.mk_merge.specs.Merging.{merged, reported_txns}
 use Rattle.mk_merge.specs.Promises.{PromiseState, ArePromises, EntryFits, promised_txns, base_of, is_leaders, chosen, counting, highest_adopted}
 use Rattle.mk_merge.specs.Keepings.{PromiseStands, Stand}
-use Rattle.mk_merge.proofs.Examples.{fits-empty}
 use Rattle.mk_merge.proofs.Members.{both_true, Among-mapping, Among-mapped, Among-passing, Among-flat_mapped}
 use Rattle.mk_merge.proofs.OrderLaws.{Among-ordered}
-use Rattle.mk_snap.specs.Rows.{adopted_by_two, promised_on}
-use Rattle.mk_snap.specs.Tables.{pool, is_other, is_unused, AreDrawn, IsDrawn, AreHanded}
+use Rattle.mk_snap.specs.Tables.{alice_third, bob_third, carol_third, seconds, pool, is_other, is_unused, AreDrawn, base_at, AreOfPool, IsDrawn, IsGiven, AreHanded}
 
 -- ---- lists
 
@@ -111,21 +109,23 @@ pool_coherent all h = record {
   one_of_a_stamp = λ a b p q e. ap (λ (t : Transaction). t.id) (one_of (λ (t : Transaction). place_of t.stamp) pool pool_places a b (h a p) (h b q) (ap place_of e));
 }
 
-pool_fits : (e : Entry) → Among e.txn pool → EntryFits empty_base e
-pool_fits e a = record {
-  voted = λ k. fits-empty e.txn;
-  uncovered = Each-among (λ (t : Transaction). covers [] t.id ≡ false) e.txn pool (refl, (refl, (refl, (refl, (refl, (refl, tt)))))) a;
-}
-
 -- ---- drawn entries
 
-pub drawn_none : AreDrawn [] []
-drawn_none = record { members = tt; distinct = tt }
+pub drawn_none : (base : BaseState) → AreDrawn base [] []
+drawn_none base = record { members = tt; distinct = tt; fit = tt }
 
-pub drawn_more : (seen : List Transaction) (es : List Entry) (e : Entry) → AreDrawn seen es → is_other e.txn.id seen ≡ true → AreDrawn (e.txn ∷ seen) (es ++ e ∷ [])
-drawn_more seen es e h other = record {
-  members = Each-append (λ (x : Entry). Among x.txn (e.txn ∷ seen)) es (e ∷ []) (Each-weaker (λ (x : Entry). Among x.txn seen) (λ (x : Entry). Among x.txn (e.txn ∷ seen)) (λ x a. inr a) es h.members) (inl refl, tt);
+drawn_skip : (base : BaseState) (t : Transaction) (seen : List Transaction) (es : List Entry) → AreDrawn base seen es → AreDrawn base (t ∷ seen) es
+drawn_skip base t seen es h = record {
+  members = Each-weaker (λ (x : Entry). Among x.txn seen) (λ (x : Entry). Among x.txn (t ∷ seen)) (λ x a. inr a) es h.members;
+  distinct = h.distinct;
+  fit = h.fit;
+}
+
+pub drawn_more : (base : BaseState) (seen : List Transaction) (es : List Entry) (e : Entry) → AreDrawn base seen es → is_other e.txn.id seen ≡ true → EntryFits base e → AreDrawn base (e.txn ∷ seen) (es ++ e ∷ [])
+drawn_more base seen es e h other fit = record {
+  members = Each-append (λ (x : Entry). Among x.txn (e.txn ∷ seen)) es (e ∷ []) (drawn_skip base e.txn seen es h).members (inl refl, tt);
   distinct = subst AllDistinct (sym (mapped_last (λ (x : Entry). x.txn.id) es e)) (distinct_last e.txn.id (map (λ (x : Entry). x.txn.id) es) h.distinct apart);
+  fit = Each-append (EntryFits base) es (e ∷ []) h.fit (fit, tt);
 }
   where
     apart : Among e.txn.id (map (λ (x : Entry). x.txn.id) es) → ⊥
@@ -133,8 +133,17 @@ drawn_more seen es e h other = record {
         let k = Among-mapped (λ (x : Entry). x.txn.id) e.txn.id es a in
         attempts_apart e.txn.id seen other k.0.txn (Each-among (λ (x : Entry). Among x.txn seen) k.0 es h.members k.1) k.2
 
-pub drawn_next : (txn was : Transaction) (seen : List Transaction) (es made : List Entry) → txn ≡ was → ((past : List Transaction) → AreDrawn past es → is_other txn.id past ≡ true → AreDrawn (txn ∷ past) made) → AreDrawn seen es → is_other was.id seen ≡ true → AreDrawn (was ∷ seen) made
-drawn_next txn was seen es made e f h o = subst (λ (t : Transaction). AreDrawn (t ∷ seen) made) e (f seen h (subst (λ (t : Transaction). is_other t.id seen ≡ true) (sym e) o))
+pub drawn_next : (base : BaseState) (txn was : Transaction) (seen : List Transaction) (es made : List Entry) → txn ≡ was → ((past : List Transaction) → AreDrawn base past es → is_other txn.id past ≡ true → AreDrawn base (txn ∷ past) made) → AreDrawn base seen es → is_other was.id seen ≡ true → AreDrawn base (was ∷ seen) made
+drawn_next base txn was seen es made e f h o = subst (λ (t : Transaction). AreDrawn base (t ∷ seen) made) e (f seen h (subst (λ (t : Transaction). is_other t.id seen ≡ true) (sym e) o))
+
+-- without third attempts
+pub drawn_early : (base : BaseState) (es : List Entry) → AreDrawn base seconds es → AreDrawn base pool es
+drawn_early base es h = drawn_skip base carol_third (bob_third ∷ alice_third ∷ seconds) es (drawn_skip base bob_third (alice_third ∷ seconds) es (drawn_skip base alice_third seconds es h))
+
+-- a vote that is Ok only where the transaction fits
+pub told_fits : (fits ok : Bool) → (fits ≡ false → ok ≡ false) → ok ≡ true → fits ≡ true
+told_fits true ok h e = refl
+told_fits false ok h e = absurd (false≢true (sym (h refl) ∙ e))
 
 -- ---- promises
 
@@ -144,30 +153,28 @@ stand_last stands [] (t ∷ states) p s h k = absurd h
 stand_last stands (q ∷ ps) [] p s h k = absurd h
 stand_last stands (q ∷ ps) (t ∷ states) p s h k = (h.0, stand_last stands ps states p s h.1 k)
 
-drawn_wider : (n : ℕ) (used : List ℕ) (s : PromiseState) → IsDrawn used s → IsDrawn (n ∷ used) s
-drawn_wider n used s h = record { replica = inr h.replica; base = h.base; entries = h.entries }
+pub handed_none : {B : Type 0} (stands : B → BaseState → Type 0) (later : BaseState) → AreHanded B stands later [] []
+handed_none stands later = record { states = []; stand = tt; members = tt; drawn = tt; distinct = tt }
 
-pub handed_none : {B : Type 0} (stands : B → BaseState → Type 0) → AreHanded B stands [] []
-handed_none stands = record { states = []; stand = tt; drawn = tt; distinct = tt }
-
-pub handed_more : {B : Type 0} (stands : B → BaseState → Type 0) (used : List ℕ) (ps : List (Promise B)) (p : Promise B) (s : PromiseState) → AreHanded B stands used ps → is_unused s.replica used ≡ true → PromiseStands B stands p s → s.base ≡ empty_base → AreDrawn pool s.entries → AreHanded B stands (s.replica ∷ used) (ps ++ p ∷ [])
-handed_more stands used ps p s h unused k base entries = record {
-  states = h.states ++ s ∷ [];
-  stand = stand_last stands ps h.states p s h.stand k;
-  drawn = Each-append (IsDrawn (s.replica ∷ used)) h.states (s ∷ []) (Each-weaker (IsDrawn used) (IsDrawn (s.replica ∷ used)) (drawn_wider s.replica used) h.states h.drawn) (record { replica = inl refl; base = base; entries = entries }, tt);
-  distinct = subst AllDistinct (sym (mapped_last (λ (x : PromiseState). x.replica) h.states s)) (distinct_last s.replica (map (λ (x : PromiseState). x.replica) h.states) h.distinct apart);
+pub handed_more : {B : Type 0} (stands : B → BaseState → Type 0) (later : BaseState) (used : List ℕ) (n : ℕ) (ps : List (Promise B)) (p : Promise B) → AreHanded B stands later used ps → is_unused n used ≡ true → IsGiven B stands later n p → AreHanded B stands later (n ∷ used) (ps ++ p ∷ [])
+handed_more stands later used n ps p h unused k = record {
+  states = h.states ++ k.state ∷ [];
+  stand = stand_last stands ps h.states p k.state h.stand k.stand;
+  members = Each-append (λ (s : PromiseState). Among s.replica (n ∷ used)) h.states (k.state ∷ []) (Each-weaker (λ (s : PromiseState). Among s.replica used) (λ (s : PromiseState). Among s.replica (n ∷ used)) (λ s a. inr a) h.states h.members) (inl (sym k.replica), tt);
+  drawn = Each-append (IsDrawn later) h.states (k.state ∷ []) h.drawn (k.drawn, tt);
+  distinct = subst AllDistinct (sym (mapped_last (λ (x : PromiseState). x.replica) h.states k.state)) (distinct_last k.state.replica (map (λ (x : PromiseState). x.replica) h.states) h.distinct apart);
 }
   where
-    apart : Among s.replica (map (λ (x : PromiseState). x.replica) h.states) → ⊥
+    apart : Among k.state.replica (map (λ (x : PromiseState). x.replica) h.states) → ⊥
     apart a =
-        let k = Among-mapped (λ (x : PromiseState). x.replica) s.replica h.states a in
-        numbers_apart s.replica used unused (subst (λ (n : ℕ). Among n used) k.2 (Each-among (IsDrawn used) k.0 h.states h.drawn k.1).replica)
+        let m = Among-mapped (λ (x : PromiseState). x.replica) k.state.replica h.states a in
+        numbers_apart n used unused (subst (λ (r : ℕ). Among r used) (m.2 ∙ k.replica) (Each-among (λ (s : PromiseState). Among s.replica used) m.0 h.states h.members m.1))
 
 -- each transaction of these promises is of the pool
-abbrev pub ArePooled : List PromiseState → Type 0
-ArePooled states = (s : PromiseState) → Among s states → (t : Transaction) → Among t (promised_txns s) → Among t pool
+abbrev pub AreFromPool : List PromiseState → Type 0
+AreFromPool states = (s : PromiseState) → Among s states → (t : Transaction) → Among t (promised_txns s) → Among t pool
 
-pooled_coherent : (states : List PromiseState) → ArePooled states → AreCoherent (flat_map promised_txns states)
+pooled_coherent : (states : List PromiseState) → AreFromPool states → AreCoherent (flat_map promised_txns states)
 pooled_coherent states h = pool_coherent (flat_map promised_txns states) (λ t a. let k = Among-flat_mapped promised_txns t states a in h k.0 k.1 t k.2)
 
 entered : (t : Transaction) (es : List Entry) → Each (λ (e : Entry). Among e.txn pool) es → Among t (map (λ (e : Entry). e.txn) es) → Among t pool
@@ -186,43 +193,28 @@ of_both s h k t a = elim (Among-append t (map (λ (f : Fated). f.txn) s.base.lis
   | inr b ↦ entered t s.entries k b
 ]
 
-pub drawn_pooled : (used : List ℕ) (states : List PromiseState) → Each (IsDrawn used) states → ArePooled states
-drawn_pooled used states h s a =
-    let k = Each-among (IsDrawn used) s states h a in
-    of_both s (subst (λ (b : BaseState). Each (λ (f : Fated). Among f.txn pool) b.list) (sym k.base) tt) k.entries.members
+at_of_pool : (later : BaseState) → AreOfPool later → (e : ℕ) → AreOfPool (base_at later e)
+at_of_pool later h zero = tt
+at_of_pool later h (suc e) = h
 
-pub drawn_asked : (used : List ℕ) (states : List PromiseState) → Each (IsDrawn used) states → AllDistinct (map (λ (s : PromiseState). s.replica) states) → ArePromises states
-drawn_asked used states h distinct = record {
+pub drawn_pooled : (later : BaseState) → AreOfPool later → (states : List PromiseState) → Each (IsDrawn later) states → AreFromPool states
+drawn_pooled later of_pool states h s a =
+    let k = Each-among (IsDrawn later) s states h a in
+    of_both s (subst AreOfPool (sym k.base) (at_of_pool later of_pool s.adopted)) k.entries.members
+
+pub drawn_asked : (later : BaseState) → AreOfPool later → (states : List PromiseState) → Each (IsDrawn later) states → AllDistinct (map (λ (s : PromiseState). s.replica) states) → ArePromises states
+drawn_asked later of_pool states h distinct = record {
   distinct_replicas = distinct;
-  distinct_ids = each_of _ states (λ s a. (Each-among (IsDrawn used) s states h a).entries.distinct);
-  one_base = λ p q a b e. (Each-among (IsDrawn used) p states h a).base ∙ sym (Each-among (IsDrawn used) q states h b).base;
-  coherent = pooled_coherent states (drawn_pooled used states h);
-  entries_fit = each_of _ states fit;
+  distinct_ids = each_of _ states (λ s a. (Each-among (IsDrawn later) s states h a).entries.distinct);
+  one_base = λ p q a b e. (Each-among (IsDrawn later) p states h a).base ∙ ap (base_at later) e ∙ sym (Each-among (IsDrawn later) q states h b).base;
+  coherent = pooled_coherent states (drawn_pooled later of_pool states h);
+  entries_fit = each_of _ states (λ s a. (Each-among (IsDrawn later) s states h a).entries.fit);
 }
-  where
-    fit : (s : PromiseState) → Among s states → Each (EntryFits s.base) s.entries
-    fit s a =
-        let k = Each-among (IsDrawn used) s states h a in
-        subst (λ (b : BaseState). Each (EntryFits b) s.entries) (sym k.base) (Each-weaker (λ (e : Entry). Among e.txn pool) (EntryFits empty_base) pool_fits s.entries k.entries.members)
 
--- ---- two that adopted a base
-
-pub adopted_pooled : (base : BaseState) → Each (λ (f : Fated). Among f.txn pool) base.list → ArePooled (adopted_by_two base)
-adopted_pooled base h s (inl e) = subst (λ (p : PromiseState). (t : Transaction) → Among t (promised_txns p) → Among t pool) e (of_both (promised_on 0 base) h tt)
-adopted_pooled base h s (inr (inl e)) = subst (λ (p : PromiseState). (t : Transaction) → Among t (promised_txns p) → Among t pool) e (of_both (promised_on 1 base) h tt)
-adopted_pooled base h s (inr (inr a)) = absurd a
-
-pub adopted_asked : (base : BaseState) → Each (λ (f : Fated). Among f.txn pool) base.list → ArePromises (adopted_by_two base)
-adopted_asked base h = record {
-  distinct_replicas = (numbers_apart 0 (1 ∷ []) refl, ((λ a. a), tt));
-  distinct_ids = (tt, (tt, tt));
-  one_base = λ p q a b e. same p a ∙ sym (same q b);
-  coherent = pooled_coherent (adopted_by_two base) (adopted_pooled base h);
-  entries_fit = (tt, (tt, tt));
-}
-  where
-    same : (p : PromiseState) → Among p (adopted_by_two base) → p.base ≡ base
-    same p a = Each-among (λ (s : PromiseState). s.base ≡ base) p (adopted_by_two base) (refl, (refl, tt)) a
+-- the base of every epoch above 0
+pub later_at : (later : BaseState) (e : ℕ) → 0 < e → base_at later e ≡ later
+later_at later zero h = absurd (omega (arith, h))
+later_at later (suc e) h = refl
 
 -- ---- what a merge has
 
@@ -238,22 +230,22 @@ among_counting f epoch states s a = elim (Among-append s leading others (Among-p
     others : List PromiseState
     others = take f (filter (λ p. not (is_leaders f epoch p)) states)
 
-of_base : (ps : List PromiseState) → ArePooled ps → (t : Transaction) → Among t (map (λ (f : Fated). f.txn) (base_of ps).list) → Among t pool
+of_base : (ps : List PromiseState) → AreFromPool ps → (t : Transaction) → Among t (map (λ (f : Fated). f.txn) (base_of ps).list) → Among t pool
 of_base [] h t a = absurd a
 of_base (p ∷ ps) h t a = h p (inl refl) t (Among-append_left t (map (λ (f : Fated). f.txn) p.base.list) (map (λ (e : Entry). e.txn) p.entries) a)
 
-of_entries : (ps : List PromiseState) → ArePooled ps → (t : Transaction) → Among t (flat_map (λ (p : PromiseState). map (λ (e : Entry). e.txn) p.entries) ps) → Among t pool
+of_entries : (ps : List PromiseState) → AreFromPool ps → (t : Transaction) → Among t (flat_map (λ (p : PromiseState). map (λ (e : Entry). e.txn) p.entries) ps) → Among t pool
 of_entries ps h t a =
     let k = Among-flat_mapped (λ (p : PromiseState). map (λ (e : Entry). e.txn) p.entries) t ps a in
     h k.0 k.1 t (Among-append_right t (map (λ (f : Fated). f.txn) k.0.base.list) (map (λ (e : Entry). e.txn) k.0.entries) k.2)
 
-of_reported : (ps : List PromiseState) → ArePooled ps → (t : Transaction) → Among t (reported_txns ps) → Among t pool
+of_reported : (ps : List PromiseState) → AreFromPool ps → (t : Transaction) → Among t (reported_txns ps) → Among t pool
 of_reported ps h t a = elim (Among-append t (map (λ (f : Fated). f.txn) (base_of ps).list) (flat_map (λ (p : PromiseState). map (λ (e : Entry). e.txn) p.entries) ps) (Among-ordered t _ a)) [
   | inl b ↦ of_base ps h t b
   | inr b ↦ of_entries ps h t b
 ]
 
-pub merged_pooled : (f epoch : ℕ) (states : List PromiseState) → ArePooled states → Each (λ (x : Fated). Among x.txn pool) (merged f epoch states).list
+pub merged_pooled : (f epoch : ℕ) (states : List PromiseState) → AreFromPool states → AreOfPool (merged f epoch states)
 merged_pooled f epoch states h = each_of (λ (x : Fated). Among x.txn pool) (merged f epoch states).list one
   where
     counted : List PromiseState
@@ -263,3 +255,10 @@ merged_pooled f epoch states h = each_of (λ (x : Fated). Among x.txn pool) (mer
     one x a =
         let k = Among-mapped _ x (reported_txns counted) a in
         subst (λ (y : Fated). Among y.txn pool) k.2 (of_reported counted (λ s b. h s (among_counting f epoch states s b)) k.0 k.1)
+
+-- no transaction of the pool names a key above 2
+pub pool_names : (base : BaseState) → AreOfPool base → NamesBelow 3 base
+pool_names base h = Each-weaker (λ (f : Fated). Among f.txn pool) (λ (f : Fated). names_below 3 f.txn ≡ true) one base.list h
+  where
+    one : (f : Fated) → Among f.txn pool → names_below 3 f.txn ≡ true
+    one f a = Each-among (λ (t : Transaction). names_below 3 t ≡ true) f.txn pool (refl, (refl, (refl, (refl, (refl, (refl, (refl, (refl, (refl, tt))))))))) a

@@ -1,11 +1,13 @@
 -- Transactions and promises of worked cases.
 use Rattle.std.specs.Prelude.{ℕ, List, [], ◌∷◌, Option, Some, None}
 use Rattle.mk_txn.specs.declared.Value.TheVariants.{Number}
+use Rattle.mk_txn.specs.declared.Vote.{Vote}
 use Rattle.mk_txn.specs.declared.Vote.TheVariants.{Ok as VoteOk}
 use Rattle.mk_txn.specs.declared.Accepted.{Accepted}
 use Rattle.mk_txn.specs.declared.Outcome.{Outcome}
 use Rattle.mk_txn.specs.declared.Outcome.TheVariants.{Commit}
 use Rattle.mk_txn.specs.Stamps.{zero_stamp}
+use Rattle.mk_txn.specs.MarkMaps.{MarkMap}
 use Rattle.mk_txn.specs.Transactions.{Transaction}
 use Rattle.mk_record.specs.declared.Entry.{Entry}
 use Rattle.mk_merge.specs.Bases.{BaseState, empty_base}
@@ -65,6 +67,10 @@ second =
 abbrev pub voted : Transaction → Option Accepted → Option Outcome → Entry
 voted txn accepted last = record { txn = txn; view = 0; vote = Some VoteOk; accepted = accepted; last = last }
 
+-- an entry of which a takeover of view 1 has asked, with this vote
+abbrev pub left_by_takeover : Transaction → Option Vote → Entry
+left_by_takeover txn vote = record { txn = txn; view = 1; vote = vote; accepted = None; last = None }
+
 -- a promise from epoch 0
 abbrev pub promised : ℕ → List Entry → PromiseState
 promised r entries = record { replica = r; adopted = 0; base = empty_base; entries = entries; marks = [] }
@@ -88,12 +94,13 @@ finished =
 abbrev pub two_entries : List Entry
 two_entries = voted early None (Some Commit) ∷ voted second None (Some Commit) ∷ []
 
--- both are reported twice, and one mark covers the first
-abbrev pub covered : List PromiseState
-covered =
-    record { replica = 1; adopted = 0; base = empty_base; entries = two_entries; marks = (1, 1) ∷ [] }
-    ∷ promised 0 two_entries
-    ∷ []
+-- a promise from epoch 0 with marks
+abbrev pub marked : ℕ → List Entry → MarkMap → PromiseState
+marked r entries marks = record { replica = r; adopted = 0; base = empty_base; entries = entries; marks = marks }
+
+-- two replicas have finished both attempts, and have these marks
+abbrev pub two_reports : MarkMap → MarkMap → List PromiseState
+two_reports first other = marked 1 two_entries first ∷ marked 0 two_entries other ∷ []
 
 -- a promise from epoch 1, whose base this is, without entries
 abbrev pub promised_on : ℕ → BaseState → PromiseState
@@ -103,10 +110,18 @@ promised_on r base = record { replica = r; adopted = 1; base = base; entries = [
 abbrev pub adopted_by_two : BaseState → List PromiseState
 adopted_by_two base = promised_on 0 base ∷ promised_on 1 base ∷ []
 
--- two of three promises have an Ok vote
+-- of the three that a takeover has asked, two have an Ok vote
 abbrev pub hinted : List PromiseState
-hinted = promised 1 (voted early None None ∷ []) ∷ promised 0 (voted early None None ∷ []) ∷ promised 2 [] ∷ []
+hinted =
+    promised 1 (left_by_takeover early (Some VoteOk) ∷ [])
+    ∷ promised 0 (left_by_takeover early (Some VoteOk) ∷ [])
+    ∷ promised 2 (left_by_takeover early None ∷ [])
+    ∷ []
 
--- one of two has
+-- two without entries
+abbrev pub silent : List PromiseState
+silent = promised 1 [] ∷ promised 2 [] ∷ []
+
+-- one of two has an Ok vote
 abbrev pub unhinted : List PromiseState
 unhinted = promised 2 [] ∷ promised 0 (voted early None None ∷ []) ∷ []
