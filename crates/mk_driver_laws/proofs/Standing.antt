@@ -340,7 +340,7 @@ past_fits script c number standing (past ∷ rounds) h done =
 
 -- wherever the turns name a step, it is enabled
 pub named_is_enabled : NamedIsEnabled
-named_is_enabled script c rounds views log come step e =
+named_is_enabled script whole c rounds views log come step e =
     let standing = standing_at script c rounds views log in
     let fits : Fits script standing =
     through_fits script views (standing_past script c 0 (first_standing script c) rounds) log

@@ -3,6 +3,7 @@ use Rattle.std.specs.Prelude.{true, ◌≡◌, ◌⊎◌, Some, ◌≤◌, ℕ, 
 use Rattle.mk_quorum.specs.Sizes.{members}
 use Rattle.mk_merge.specs.declared.ReplicaView.{ReplicaView}
 use Rattle.mk_script.specs.Scripts.{ScriptParts}
+use Rattle.mk_script.specs.Whole.{IsWhole}
 use Rattle.mk_history.specs.Histories.{log_of}
 use Rattle.mk_column.specs.declared.Step.{Step}
 use Rattle.mk_column.specs.declared.Step.TheVariants.{Begin, Unread, Read, Stamp}
@@ -46,9 +47,11 @@ IsSure round column (Read id key) = (is_idle column.work ≡ true) × (on_attemp
 IsSure round column (Stamp id clock writes) = (is_idle column.work ≡ true) × (on_attempt column id (λ a. a.reading) ≡ true)
 IsSure round column step = blocked round column step ≡ None
 
--- wherever the turns name a step, it is enabled
+-- Wherever the turns name a step, it is enabled. The script keeps the limits that `IsWhole` lists, as the Model of every `Script` does
+-- by its invariant, so whatever `parse` gives keeps them: at most 3 retries, 4,096 transactions in all rounds together and 16
+-- items in each, keys below their number, and clocks up to 2^61.
 abbrev pub NamedIsEnabled : Type 0
 NamedIsEnabled =
-    (script : ScriptParts) (c : ℕ) (rounds : List PastRound) (views : List ReplicaView) (log : List Step) →
+    (script : ScriptParts) → IsWhole script → (c : ℕ) (rounds : List PastRound) (views : List ReplicaView) (log : List Step) →
     HasCome script c rounds views log → (step : Step) → turn script c rounds views log ≡ StepNext step →
     IsSure (setting_in script views) (let standing = standing_at script c rounds views log in standing.column) step
