@@ -30,7 +30,7 @@ use Rattle.mk_driver.specs.Agenda.{trial_by, asked, with_place, is_caller, chang
 use Rattle.mk_driver.specs.Delivery.{follow_ups}
 use Rattle.mk_driver.specs.Stages.{Turn, turn_of, turn_by, begin_next, begin_of, begin_by, reader_for, next_request, without_request_by, without_request, begun, resting, left, ruled_by, closed_by, stage_three, stage_four, validated, stage_after}
 use Rattle.mk_driver.specs.Stages.Turn.{Nothing, Silent, Steps}
-use Rattle.mk_driver_laws.specs.Enabled.{IsSure}
+use Rattle.mk_driver_laws.proofs.Sure.{IsSureWithPlace}
 use Rattle.mk_driver_laws.proofs.Lookups.{find-change, same_id-tells, there, passes-at, and_left, and_right}
 use Rattle.mk_driver_laws.proofs.Conditions.{none_fails}
 use Rattle.mk_driver_laws.proofs.ColumnMoves.{stops, validates, ColumnFits, stays_unsent}
@@ -45,7 +45,7 @@ pub retask : (c : ColumnState) (tasks others : List Task) (d : DriverState) → 
 retask c tasks others d h t = record { tasks_fit = t; late = h.late; held = h.held; callers = h.callers; rising = h.rising }
 
 -- a begun transaction keeps its client
-kept_by : (requests : List Request) (x : Caller) → ((without_request_by requests x).number ≡ x.number) × ((without_request_by requests x).under_way ≡ x.under_way)
+pub kept_by : (requests : List Request) (x : Caller) → ((without_request_by requests x).number ≡ x.number) × ((without_request_by requests x).under_way ≡ x.under_way)
 kept_by [] x = (refl, refl)
 kept_by (request ∷ requests) x = (refl, refl)
 
@@ -99,7 +99,7 @@ module _ (rules : RuleLines) (round : Setting) (c : ColumnState) (k : ColumnFits
   TurnFits Nothing = Unit {0}
   TurnFits (Silent d) = Done rules round c k idle none tasks d
   TurnFits (Steps step after d) =
-      IsSure round c step × (blocked round c step ≡ None → (place : ℕ) → WholeFits (column_after_of step) d ((after ++ Turns place true ∷ []) ++ d.agenda))
+      IsSureWithPlace round c step × (blocked round c step ≡ None → (place : ℕ) → WholeFits (column_after_of step) d ((after ++ Turns place true ∷ []) ++ d.agenda))
     where
       column_after_of : Step → ColumnState
       column_after_of step = After rules round c k idle none step

@@ -8,10 +8,17 @@ pub mod Taking
 pub mod Frames
 pub mod Reading
 pub mod DriverFits
+pub mod Remaining
+pub mod NextPlaces
+pub mod Places
+pub mod Sure
 pub mod Walk
 pub mod Named
 pub mod Fetching
 pub mod Beginnings
 pub mod ClientTurns
+pub mod PlaceTurns
+pub mod PlaceChoices
 pub mod Choices
 pub mod Standing
+pub mod PlaceStandings

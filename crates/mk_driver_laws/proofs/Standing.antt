@@ -14,6 +14,7 @@ use Rattle.mk_quorum.specs.Slots.{passes}
 use Rattle.mk_script.specs.declared.lines.Point.{Point}
 use Rattle.mk_script.specs.declared.lines.Point.TheVariants.{Read as AfterRead, Votes as AfterVotes, Accepts as AfterAccepts}
 use Rattle.mk_script.specs.Scripts.{ScriptParts}
+use Rattle.mk_script.specs.Whole.{IsWhole}
 use Rattle.mk_script.specs.declared.lines.ClientLine.{ClientLine}
 use Rattle.mk_faults.specs.Fates.{rules_of}
 use Rattle.mk_cell.specs.declared.Answer.{Answer}
@@ -35,8 +36,9 @@ use Rattle.mk_driver.specs.declared.Task.{Task}
 use Rattle.mk_driver.specs.declared.Task.TheVariants.{Take}
 use Rattle.mk_driver.specs.Keeping.{IsRising, numbers_of}
 use Rattle.mk_driver.specs.Turns.{Choice, choice}
-use Rattle.mk_driver.specs.Driven.{Standing, PastRound, IsNamed, asked_more, callers_from, client_columns_of, first_standing, lines_of_round, next_at, reset_by_line, reset_by_lines, round_at, round_ended, setting_in, standing_after, standing_at, standing_begun, standing_past, standing_through}
-use Rattle.mk_driver_laws.specs.Enabled.{IsDone, AreDone, NamedIsEnabled}
+use Rattle.mk_driver.specs.Driven.{Standing, PastRound, IsNamed, asked_more, callers_from, client_columns_of, first_standing, lines_of_round, next_at, reset_by_line, reset_by_lines, round_at, round_ended, setting_in, standing_after, standing_at, standing_begun, standing_past, standing_through, turn}
+use Rattle.mk_driver_laws.specs.Enabled.{IsDone, AreDone, HasCome}
+use Rattle.mk_driver_laws.proofs.Sure.{IsSureWithPlace}
 use Rattle.mk_driver_laws.proofs.ColumnMoves.{Moves, stays_unsent, AttemptFits, ColumnFits, column_fits}
 use Rattle.mk_driver_laws.proofs.Taking.{step_moves}
 use Rattle.mk_driver_laws.proofs.Frames.{key_keeps, link_grows, stays_going, is_live, IsLive}
@@ -253,7 +255,7 @@ asked_callers : (c : ColumnState) (submissions : List Submission) (xs : List Cal
 asked_callers c submissions [] h = tt
 asked_callers c submissions (x ∷ xs) h = (h.0, asked_callers c submissions xs h.1)
 
-asked_numbers : (submissions : List Submission) (xs : List Caller) → numbers_of (map (asked_more submissions) xs) ≡ numbers_of xs
+pub asked_numbers : (submissions : List Submission) (xs : List Caller) → numbers_of (map (asked_more submissions) xs) ≡ numbers_of xs
 asked_numbers submissions [] = refl
 asked_numbers submissions (x ∷ xs) = ap (λ ns. x.number ∷ ns) (asked_numbers submissions xs)
 
@@ -285,7 +287,7 @@ from_number column n m (line ∷ lines) e = head (line.column == column) (from_n
     head true rest = (e, rest)
     head false rest = rest
 
-first_rising : (column n : ℕ) (lines : List ClientLine) → IsRising (numbers_of (callers_from column n lines))
+pub first_rising : (column n : ℕ) (lines : List ClientLine) → IsRising (numbers_of (callers_from column n lines))
 first_rising column n [] = tt
 first_rising column n (line ∷ lines) = head (line.column == column) (first_rising column (n + 1) lines)
   where
@@ -338,9 +340,11 @@ past_fits script c number standing (past ∷ rounds) h done =
     (through_fits script past.views (standing_begun script number standing) (log_of past.round c) (begun_fits script number standing h) done.0) done.1)
     done.2
 
--- wherever the turns name a step, it is enabled
-pub named_is_enabled : NamedIsEnabled
-named_is_enabled script whole c rounds views log come step e =
+-- wherever the turns name a step, it is enabled once its client is known to have a place left
+pub named_with_place : (script : ScriptParts) → IsWhole script → (c : ℕ) (rounds : List PastRound) (views : List ReplicaView) (log : List Step) →
+    HasCome script c rounds views log → (step : Step) → turn script c rounds views log ≡ StepNext step →
+    IsSureWithPlace (setting_in script views) (let standing = standing_at script c rounds views log in standing.column) step
+named_with_place script whole c rounds views log come step e =
     let standing = standing_at script c rounds views log in
     let fits : Fits script standing =
     through_fits script views (standing_past script c 0 (first_standing script c) rounds) log

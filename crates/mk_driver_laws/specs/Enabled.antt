@@ -1,12 +1,12 @@
 -- That the step which the driver's turns name is enabled.
-use Rattle.std.specs.Prelude.{true, ◌≡◌, ◌⊎◌, Some, ◌≤◌, ℕ, ◌+◌, List, [], ◌∷◌, length, None}
+use Rattle.std.specs.Prelude.{true, ◌≡◌, ◌≤◌, ℕ, ◌+◌, List, [], ◌∷◌, length, None}
 use Rattle.mk_quorum.specs.Sizes.{members}
 use Rattle.mk_merge.specs.declared.ReplicaView.{ReplicaView}
 use Rattle.mk_script.specs.Scripts.{ScriptParts}
 use Rattle.mk_script.specs.Whole.{IsWhole}
 use Rattle.mk_history.specs.Histories.{log_of}
 use Rattle.mk_column.specs.declared.Step.{Step}
-use Rattle.mk_column.specs.declared.Step.TheVariants.{Begin, Unread, Read, Stamp}
+use Rattle.mk_column.specs.declared.Step.TheVariants.{Unread, Read, Stamp}
 use Rattle.mk_column.specs.ColumnState.{Setting, ColumnState}
 use Rattle.mk_column.specs.Conditions.{blocked, is_idle, on_attempt}
 use Rattle.mk_driver.specs.declared.Next.TheVariants.{Step as StepNext, Over}
@@ -34,15 +34,10 @@ pub record HasCome (script : ScriptParts) (c : ℕ) (rounds : List PastRound) (v
   pub past : AreDone script c 0 (first_standing script c) rounds
   pub done : IsDone script (setting_in script views) (standing_past script c 0 (first_standing script c) rounds) log
 
--- The step is enabled. Of a Begin and an Unread the fourth condition is left open, that its client has a place left, and an
--- Unread wants no more views than there are replicas. Of a Read and a Stamp the first two conditions hold: no key call is under
+-- The step is enabled. An Unread wants no more views than there are replicas. Of a Read and a Stamp the first two conditions hold: no key call is under
 -- way, and the attempt reads.
 abbrev pub IsSure : Setting → ColumnState → Step → Type 0
-IsSure round column (Begin client replica) =
-    (blocked round column (Begin client replica) ≡ None) ⊎ (blocked round column (Begin client replica) ≡ Some 4)
-IsSure round column (Unread client) =
-    length round.views ≤ members round.faults →
-    (blocked round column (Unread client) ≡ None) ⊎ (blocked round column (Unread client) ≡ Some 4)
+IsSure round column (Unread client) = length round.views ≤ members round.faults → blocked round column (Unread client) ≡ None
 IsSure round column (Read id key) = (is_idle column.work ≡ true) × (on_attempt column id (λ a. a.reading) ≡ true)
 IsSure round column (Stamp id clock writes) = (is_idle column.work ≡ true) × (on_attempt column id (λ a. a.reading) ≡ true)
 IsSure round column step = blocked round column step ≡ None
