@@ -1,7 +1,6 @@
 -- The next places of a column's clients, while steps are done.
-use Rattle.std.proofs.Common.{◌≡◌, ◌∙◌, ◌≤◌, ℕ, ◌+◌, Bool, true, false, refl, sym, subst, ap, arith, List, [], ◌∷◌, Option, Some, None, if◌then◌else◌}
-use Rattle.std.specs.Prelude.{◌==◌, slice_get, find}
-use Rattle.std.proofs.lemmas.Bool.Decides.{nat_tests}
+use Rattle.std.proofs.Common.{◌≡◌, ◌∙◌, ℕ, ◌+◌, Bool, true, false, refl, sym, subst, List, [], ◌∷◌, Option, Some, None, if◌then◌else◌}
+use Rattle.std.specs.Prelude.{◌==◌, slice_get}
 use Rattle.mk_lists.specs.Among.{Each, Each-weaker}
 use Rattle.mk_lists.specs.Changed.{change, Each-change}
 use Rattle.mk_txn.specs.declared.TxnId.{TxnId}

@@ -1,5 +1,5 @@
 -- What the tasks and parts name takes a place only where one is left, and the places that are left still do.
-use Rattle.std.proofs.Common.{◌≡◌, ◌≤◌, ℕ, zero, suc, ◌+◌, ◌-◌, Bool, true, false, refl, arith, List, [], ◌∷◌, ◌++◌, length, Option, Some, None, not, ◌&&◌}
+use Rattle.std.proofs.Common.{◌≡◌, ◌≤◌, ℕ, zero, suc, ◌+◌, ◌-◌, Bool, true, false, refl, arith, List, [], ◌∷◌, length, Option, Some, None, not, ◌&&◌}
 use Rattle.std.specs.Prelude.{is_none, slice_get}
 use Rattle.mk_txn.specs.declared.TxnId.{TxnId}
 use Rattle.mk_txn.specs.declared.ReadItem.{ReadItem}
@@ -29,7 +29,7 @@ use Rattle.mk_driver.specs.declared.Next.{Next}
 use Rattle.mk_driver.specs.declared.Next.TheVariants.{Step as StepNext, Key as KeyNext, Over}
 use Rattle.mk_driver.specs.Agenda.{Worked, is_caller, trial_of, with_held, with_late, with_late_by}
 use Rattle.mk_driver.specs.Agenda.Worked.{Quiet, Names}
-use Rattle.mk_driver.specs.Delivery.{taking_by, by_fate, delivering, delivering_from, taking_late, done_with, tried_again, noticed, own_learned}
+use Rattle.mk_driver.specs.Delivery.{taking_by, by_fate, delivering, taking_late, done_with, tried_again, noticed, own_learned}
 use Rattle.mk_driver.specs.Settling.{was_validated, settle_by, settle_takeover_by, takeover_by, resume_with, resume_if, resume_by}
 use Rattle.mk_driver.specs.Stages.{Turn, turn_of, at_stage, fetch_by, fetching, same_point, stopping, reach_by}
 use Rattle.mk_driver.specs.Stages.Turn.{Nothing, Silent, Steps}

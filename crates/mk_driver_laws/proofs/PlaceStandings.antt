@@ -1,5 +1,5 @@
 -- At every time that named steps lead to, each client has as many places left as it can still begin attempts, and so the named step is enabled.
-use Rattle.std.proofs.Common.{◌≡◌, ◌∙◌, ◌≤◌, ℕ, zero, suc, ◌+◌, ◌*◌, Bool, true, false, refl, sym, subst, ap, arith, List, [], ◌∷◌, map, length, None, if◌then◌else◌}
+use Rattle.std.proofs.Common.{◌≡◌, ◌∙◌, ◌≤◌, ℕ, zero, suc, ◌+◌, ◌*◌, Bool, true, false, refl, sym, subst, ap, arith, List, [], ◌∷◌, map, None, if◌then◌else◌}
 use Rattle.std.specs.Prelude.{◌==◌, sum_by, slice_index_or}
 use Rattle.std.proofs.lemmas.Nat.{mul-le}
 use Rattle.std.proofs.lemmas.List.Sums.{sum_by-cons}
@@ -26,12 +26,11 @@ use Rattle.mk_driver.specs.declared.Next.{Next}
 use Rattle.mk_driver.specs.declared.Next.TheVariants.{Step as StepNext, Key as KeyNext, Over}
 use Rattle.mk_driver.specs.Keeping.{IsRising}
 use Rattle.mk_driver.specs.Turns.{Choice, choice}
-use Rattle.mk_driver.specs.Driven.{Standing, PastRound, IsNamed, asked_more, callers_from, client_columns_of, empty_round, first_standing, lines_of_round, next_at, reset_by_line, reset_by_lines, round_at, round_ended, setting_in, standing_after, standing_at, standing_begun, standing_past, standing_through, submitted_by}
-use Rattle.mk_driver_laws.specs.Enabled.{IsDone, AreDone, HasCome, NamedIsEnabled}
+use Rattle.mk_driver.specs.Driven.{Standing, PastRound, IsNamed, asked_more, callers_from, client_columns_of, empty_round, first_standing, next_at, reset_by_line, reset_by_lines, round_at, round_ended, setting_in, standing_after, standing_at, standing_begun, standing_past, standing_through, submitted_by}
+use Rattle.mk_driver_laws.specs.Enabled.{IsDone, AreDone, NamedIsEnabled}
 use Rattle.mk_driver_laws.proofs.Lookups.{each_map}
 use Rattle.mk_driver_laws.proofs.Sure.{is_sure}
 use Rattle.mk_driver_laws.proofs.Remaining.{remaining, asked_remains}
-use Rattle.mk_driver_laws.proofs.NextPlaces.{Nexts}
 use Rattle.mk_driver_laws.proofs.Places.{HasRoom, RoomFor, Placed, room_more, placed_after}
 use Rattle.mk_driver_laws.proofs.PlaceChoices.{NamedPlaced, choice_placed}
 use Rattle.mk_driver_laws.proofs.Standing.{first_rising, asked_numbers, named_with_place}

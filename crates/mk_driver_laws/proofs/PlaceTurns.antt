@@ -1,5 +1,5 @@
 -- In its turn a client begins an attempt only where it has a place left, and the places that are left still do.
-use Rattle.std.proofs.Common.{◌≡◌, ◌≤◌, ℕ, ◌+◌, Bool, true, false, refl, arith, List, [], ◌∷◌, length, Option, Some, None}
+use Rattle.std.proofs.Common.{◌≡◌, ◌≤◌, ℕ, refl, arith, Option, Some, None}
 use Rattle.std.specs.Prelude.{slice_get}
 use Rattle.mk_txn.specs.declared.TxnId.{TxnId}
 use Rattle.mk_txn.specs.declared.Outcome.{Outcome}
@@ -8,7 +8,6 @@ use Rattle.mk_coord.specs.declared.Ruling.TheVariants.{Fast, Propose, Learned, S
 use Rattle.mk_coord.specs.Rulings.{CoordState, ruling}
 use Rattle.mk_script.specs.declared.lines.Point.{Point}
 use Rattle.mk_script.specs.declared.lines.Point.TheVariants.{Read as AfterRead, Votes as AfterVotes, Accepts as AfterAccepts}
-use Rattle.mk_column.specs.declared.Step.{Step}
 use Rattle.mk_column.specs.declared.Step.TheVariants.{Begin, Unread, Validate, Rule}
 use Rattle.mk_column.specs.ColumnState.{Setting, ColumnState, AttemptState, ClientState, attempt_of, client_of}
 use Rattle.mk_column.specs.Steps.{column_after}
@@ -22,7 +21,7 @@ use Rattle.mk_driver.specs.Stages.Turn.{Nothing, Silent, Steps}
 use Rattle.mk_driver_laws.proofs.Sure.{HasPlace}
 use Rattle.mk_driver_laws.proofs.ClientTurns.{kept_by}
 use Rattle.mk_driver_laws.proofs.Remaining.{remaining, begun_remains, unread_remains}
-use Rattle.mk_driver_laws.proofs.NextPlaces.{takes_place, begin_nexts, unread_nexts}
+use Rattle.mk_driver_laws.proofs.NextPlaces.{begin_nexts, unread_nexts}
 use Rattle.mk_driver_laws.proofs.Places.{Placed, placed_less, placed_after, placed_taken, takes_one, seq_left}
 
 module _ (limit : ℕ) (few : limit ≤ 16385) (round : Setting) (c : ColumnState) where

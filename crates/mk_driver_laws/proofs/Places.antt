@@ -1,11 +1,10 @@
 -- Each client of the driver has as many places left as it can still begin attempts.
-use Rattle.std.proofs.Common.{◌≡◌, ◌∙◌, ◌<◌, ◌≤◌, ℕ, zero, suc, ◌+◌, Bool, true, false, refl, sym, subst, ap, arith, List, [], ◌∷◌, Option, Some, None, cond, if◌then◌else◌}
+use Rattle.std.proofs.Common.{◌≡◌, ◌∙◌, ◌<◌, ◌≤◌, ℕ, zero, suc, ◌+◌, Bool, true, false, refl, sym, subst, ap, arith, List, [], ◌∷◌, Some, cond, if◌then◌else◌}
 use Rattle.std.specs.Prelude.{find, slice_get, nat_le, ◌==◌}
 use Rattle.std.proofs.lemmas.Bool.Decides.{nat_tests}
 use Rattle.mk_lists.specs.Among.{Each, Each-weaker}
 use Rattle.mk_lists.specs.Changed.{change, Each-change}
 use Rattle.mk_column.specs.declared.Step.{Step}
-use Rattle.mk_column.specs.declared.Step.TheVariants.{Begin, Unread}
 use Rattle.mk_column.specs.ColumnState.{Setting, ColumnState, ClientState, client_of, is_client}
 use Rattle.mk_column.specs.Conditions.{has_seq_left}
 use Rattle.mk_column.specs.Steps.{column_after}

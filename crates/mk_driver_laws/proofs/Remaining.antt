@@ -1,5 +1,5 @@
 -- How many attempts a client can still begin: noticing an outcome raises it by nothing, and an attempt that begins takes one of it.
-use Rattle.std.proofs.Common.{◌≡◌, ◌∙◌, ◌≤◌, ℕ, zero, suc, ◌+◌, ◌-◌, ◌*◌, Bool, true, false, refl, sym, subst, ap, arith, List, [], ◌∷◌, ◌++◌, map, length, Option, Some, None, cond}
+use Rattle.std.proofs.Common.{◌≡◌, ◌≤◌, ℕ, zero, suc, ◌+◌, ◌-◌, ◌*◌, Bool, true, false, refl, ap, arith, List, [], ◌∷◌, ◌++◌, map, length, Option, Some, None, cond}
 use Rattle.std.specs.Prelude.{slice_get, slice_set, replicate, filter}
 use Rattle.mk_script.specs.declared.lines.TxnLine.{TxnLine}
 use Rattle.mk_driver.specs.declared.Request.{Request}
