@@ -34,8 +34,8 @@ pub record HasCome (script : ScriptParts) (c : ℕ) (rounds : List PastRound) (v
   pub past : AreDone script c 0 (first_standing script c) rounds
   pub done : IsDone script (setting_in script views) (standing_past script c 0 (first_standing script c) rounds) log
 
--- The step is enabled. An Unread wants no more views than there are replicas. Of a Read and a Stamp the first two conditions hold: no key call is under
--- way, and the attempt reads.
+-- The step is enabled. An Unread wants no more views than there are replicas. Of a Read and a Stamp the first two conditions
+-- hold: no key call is under way, and the attempt reads.
 abbrev pub IsSure : Setting → ColumnState → Step → Type 0
 IsSure round column (Unread client) = length round.views ≤ members round.faults → blocked round column (Unread client) ≡ None
 IsSure round column (Read id key) = (is_idle column.work ≡ true) × (on_attempt column id (λ a. a.reading) ≡ true)
