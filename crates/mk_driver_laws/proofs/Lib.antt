@@ -7,6 +7,10 @@ pub mod ColumnSteps
 pub mod Taking
 pub mod Frames
 pub mod Reading
+pub mod Requests
+pub mod ItemLaws
+pub mod ReadKeys
+pub mod Asked
 pub mod DriverFits
 pub mod Remaining
 pub mod NextPlaces
