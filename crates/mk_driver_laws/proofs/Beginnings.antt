@@ -1,5 +1,5 @@
 -- Where no attempt reads, a client that is at rest can begin, as long as it has a place left.
-use Rattle.std.proofs.Common.{◌≡◌, ◌⊎◌, ◌∙◌, ◌<◌, ◌≤◌, inl, inr, ℕ, zero, suc, ◌+◌, ◌-◌, ◌*◌, ◌/◌, ◌%◌, cond, Bool, true, false, refl, sym, subst, ap, arith, List, [], ◌∷◌, map, length, Some, None, not, ◌&&◌}
+use Rattle.std.proofs.Common.{◌≡◌, ◌∙◌, ◌<◌, ◌≤◌, ℕ, zero, suc, ◌+◌, ◌-◌, ◌*◌, ◌/◌, ◌%◌, cond, Bool, true, false, refl, sym, subst, ap, arith, List, [], ◌∷◌, map, length, Some, None, not, ◌&&◌}
 use Rattle.std.specs.Prelude.{nat_le, is_some, find, slice_get, ◌==◌}
 use Rattle.std.specs.List.{list_any}
 use Rattle.std.proofs.lemmas.Bool.Decides.{nat_tests}
@@ -10,19 +10,11 @@ use Rattle.mk_quorum.specs.Slots.{passes}
 use Rattle.mk_merge.specs.declared.ReplicaView.{ReplicaView}
 use Rattle.mk_column.specs.declared.Step.TheVariants.{Begin, Unread}
 use Rattle.mk_column.specs.ColumnState.{Setting, ColumnState, AttemptState, ClientState, client_of, numbers_from}
-use Rattle.mk_column.specs.Conditions.{blocked, first_failing, is_idle, heard_by, may_begin, serves_from, has_seq_left}
+use Rattle.mk_column.specs.Conditions.{blocked, conditions, is_idle, heard_by, may_begin, serves_from, has_seq_left}
 use Rattle.mk_driver.specs.Stages.{reader_for, from_home}
 use Rattle.mk_driver_laws.proofs.Lookups.{find-passes, any-none, and_both, not_false}
+use Rattle.mk_driver_laws.proofs.Conditions.{none_fails}
 use Rattle.mk_driver_laws.proofs.Reading.{NoneReads}
-
--- three conditions hold, and the fourth may
-three_hold : (a b c d : Bool) → a ≡ true → b ≡ true → c ≡ true →
-    (first_failing 1 (a ∷ (b ∷ (c ∷ (d ∷ [])))) ≡ None) ⊎ (first_failing 1 (a ∷ (b ∷ (c ∷ (d ∷ [])))) ≡ Some 4)
-three_hold true true true true x y z = inl refl
-three_hold true true true false x y z = inr refl
-three_hold true true false d x y z = absurd (cc z)
-three_hold true false c d x y z = absurd (cc y)
-three_hold false b c d x y z = absurd (cc x)
 
 heard_is : (c : ColumnState) (n : ℕ) (cl : ClientState) → client_of c n ≡ Some cl → heard_by c n ≡ cl.heard
 heard_is c n cl e = grind (arith, e)
@@ -38,12 +30,19 @@ begin_allowed c n cl e none =
     by false b h = refl
 
 pub begin_sure : (round : Setting) (c : ColumnState) (n home replica : ℕ) (cl : ClientState) → is_idle c.work ≡ true → client_of c n ≡ Some cl → NoneReads c →
-    reader_for round home cl.heard ≡ Some replica →
-    (blocked round c (Begin n replica) ≡ None) ⊎ (blocked round c (Begin n replica) ≡ Some 4)
-begin_sure round c n home replica cl idle e none q =
-    three_hold (is_idle c.work) (may_begin c n) (passes (serves_from (heard_by c n)) (slice_get round.views replica)) (has_seq_left c n) idle (begin_allowed c n cl e none)
-    (subst (λ (h : ℕ). passes (serves_from h) (slice_get round.views replica) ≡ true) (sym (heard_is c n cl e))
-    (find-passes (λ r. passes (serves_from cl.heard) (slice_get round.views r)) (from_home round.faults home) replica q))
+    reader_for round home cl.heard ≡ Some replica → has_seq_left c n ≡ true → blocked round c (Begin n replica) ≡ None
+begin_sure round c n home replica cl idle e none q place =
+    none_fails 1 (conditions round c (Begin n replica)) (
+      idle,
+      (
+        begin_allowed c n cl e none,
+        (
+          subst (λ (h : ℕ). passes (serves_from h) (slice_get round.views replica) ≡ true) (sym (heard_is c n cl e))
+              (find-passes (λ r. passes (serves_from cl.heard) (slice_get round.views r)) (from_home round.faults home) replica q),
+          (place, tt),
+        ),
+      ),
+    )
 
 -- ---- no replica serves
 
@@ -102,8 +101,16 @@ none_serves round home heard few e =
     (none_of (λ r. passes (serves_from heard) (slice_get round.views r)) (λ j. (home + j) % members round.faults) 0 (members round.faults) e m.0 (omega arith) (omega (arith, w))))
 
 pub unread_sure : (round : Setting) (c : ColumnState) (n home : ℕ) (cl : ClientState) → is_idle c.work ≡ true → client_of c n ≡ Some cl → NoneReads c →
-    reader_for round home cl.heard ≡ None → length round.views ≤ members round.faults →
-    (blocked round c (Unread n) ≡ None) ⊎ (blocked round c (Unread n) ≡ Some 4)
-unread_sure round c n home cl idle e none q few =
-    three_hold (is_idle c.work) (may_begin c n) (not (list_any (serves_from (heard_by c n)) round.views)) (has_seq_left c n) idle (begin_allowed c n cl e none)
-    (subst (λ (h : ℕ). not (list_any (serves_from h) round.views) ≡ true) (sym (heard_is c n cl e)) (not_false (list_any (serves_from cl.heard) round.views) (none_serves round home cl.heard few q)))
+    reader_for round home cl.heard ≡ None → length round.views ≤ members round.faults → has_seq_left c n ≡ true → blocked round c (Unread n) ≡ None
+unread_sure round c n home cl idle e none q few place =
+    none_fails 1 (conditions round c (Unread n)) (
+      idle,
+      (
+        begin_allowed c n cl e none,
+        (
+          subst (λ (h : ℕ). not (list_any (serves_from h) round.views) ≡ true) (sym (heard_is c n cl e))
+              (not_false (list_any (serves_from cl.heard) round.views) (none_serves round home cl.heard few q)),
+          (place, tt),
+        ),
+      ),
+    )

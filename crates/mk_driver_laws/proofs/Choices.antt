@@ -16,7 +16,7 @@ use Rattle.mk_driver.specs.declared.Part.{Part}
 use Rattle.mk_driver.specs.declared.Part.TheVariants.{Resume as ResumePart, Turns as TurnsPart, Takeovers as TakeoversPart, Late as LatePart, Settle as SettlePart}
 use Rattle.mk_driver.specs.declared.Task.{Task}
 use Rattle.mk_driver.specs.declared.Task.TheVariants.{Deliver, DeliverSince, Take, Notice, Fetch, Reach, Resume, Turns, Takeover, Late, Settle, SettleTakeover}
-use Rattle.mk_driver.specs.Agenda.{Worked, trial_of}
+use Rattle.mk_driver.specs.Agenda.{Worked}
 use Rattle.mk_driver.specs.Agenda.Worked.{Quiet, Names}
 use Rattle.mk_driver.specs.Delivery.{own_learned}
 use Rattle.mk_driver.specs.Stages.{Turn, turn_of, same_point}
@@ -27,6 +27,7 @@ use Rattle.mk_driver.specs.Turns.{Choice, work_on, attempt_task, attempt_tasks, 
 use Rattle.mk_driver_laws.proofs.ColumnMoves.{ColumnFits}
 use Rattle.mk_driver_laws.proofs.Reading.{NoneReads}
 use Rattle.mk_driver_laws.proofs.Named.{ChoiceFits}
+use Rattle.mk_driver_laws.proofs.Asked.{Asks, trial_asks}
 use Rattle.mk_driver_laws.proofs.Fetching.{fetch_fits}
 use Rattle.mk_driver_laws.proofs.Frames.{idle_by}
 use Rattle.mk_driver_laws.proofs.DriverFits.{WholeFits, FetchFirst, whole_plain, whole_split, BehindFits, Behind, DriverFits, behind_fit}
@@ -158,9 +159,9 @@ module _ (rules : RuleLines) (round : Setting) (c : ColumnState) (k : ColumnFits
   agenda_fits d h = in_agenda_fits (in_parts rules round c d.parts) (in_parts_fits d.parts) d.agenda d h
 
 -- what a driver names is enabled
-pub choice_fits : (rules : RuleLines) (round : Setting) (c : ColumnState) → ColumnFits round.faults c → (d : DriverState) → WholeFits c d d.agenda →
+pub choice_fits : (rules : RuleLines) (round : Setting) (c : ColumnState) → ColumnFits round.faults c → (d : DriverState) → Asks round.keys d → WholeFits c d d.agenda →
     ChoiceFits round c (choice rules round c d)
-choice_fits rules round c k d h = by (wanted c.work) refl
+choice_fits rules round c k d asks h = by (wanted c.work) refl
   where
     fetches : (tasks : List Task) → is_idle c.work ≡ true → FetchFirst c d tasks → ChoiceFits round c (in_agenda rules round c (in_parts rules round c d.parts) tasks d)
     fetches tasks idle f =
@@ -168,8 +169,8 @@ choice_fits rules round c k d h = by (wanted c.work) refl
         let id = f.id in
         let fetch = f.fetch in
         subst (λ (ts : List Task). ChoiceFits round c (in_agenda rules round c (in_parts rules round c d.parts) ts d)) (sym f.first)
-        (fetch_fits round c k id rest f.behind f.one idle (attempt_of c id) (trial_of id (with_agenda rest d)) (with_agenda rest d) (in_agenda rules round c (in_parts rules round c d.parts) rest) refl
-        fetch.3 refl (redrive c rest d rest d.parts f.driver) fetch)
+        (fetch_fits round c k id rest f.behind f.one idle (with_agenda rest d) (in_agenda rules round c (in_parts rules round c d.parts) rest) refl
+        (trial_asks round.keys id d asks) (redrive c rest d rest d.parts f.driver) fetch)
 
     by : (o : Option KeyCall) → wanted c.work ≡ o → ChoiceFits round c (unless_wanted rules round c o d)
     by (Some call) e = h

@@ -30,13 +30,14 @@ use Rattle.mk_driver.specs.Agenda.{trial_by, asked, with_place, is_caller, chang
 use Rattle.mk_driver.specs.Delivery.{follow_ups}
 use Rattle.mk_driver.specs.Stages.{Turn, turn_of, turn_by, begin_next, begin_of, begin_by, reader_for, next_request, without_request_by, without_request, begun, resting, left, ruled_by, closed_by, stage_three, stage_four, validated, stage_after}
 use Rattle.mk_driver.specs.Stages.Turn.{Nothing, Silent, Steps}
-use Rattle.mk_driver_laws.specs.Enabled.{IsSure}
+use Rattle.mk_driver_laws.proofs.Sure.{IsSureWithPlace}
 use Rattle.mk_driver_laws.proofs.Lookups.{find-change, same_id-tells, there, passes-at, and_left, and_right}
 use Rattle.mk_driver_laws.proofs.Conditions.{none_fails}
 use Rattle.mk_driver_laws.proofs.ColumnMoves.{stops, validates, ColumnFits, stays_unsent}
 use Rattle.mk_driver_laws.proofs.Beginnings.{begin_sure, unread_sure}
 use Rattle.mk_driver_laws.proofs.Reading.{NoneReads, begins, step_reads, begun_reads}
 use Rattle.mk_driver_laws.proofs.Frames.{begun_reading, is_going, is_live, IsGoing, IsLive, IsUnsent, link_grows, stays_live, begun_going, begun_unsent}
+use Rattle.mk_driver_laws.proofs.ReadKeys.{begin_goes}
 use Rattle.mk_driver_laws.proofs.DriverFits.{WholeFits, whole_plain, StageFits, UnderWayFits, RestsAt, Behind, TasksFit, DriverFits, behind_fit, behind_more, numbers_same, rests_left, rests_same, callers_left, caller_at, rests_there}
 use Rattle.mk_driver_laws.proofs.Walk.{After, Done, moved, after_own, same_callers}
 
@@ -45,7 +46,7 @@ pub retask : (c : ColumnState) (tasks others : List Task) (d : DriverState) → 
 retask c tasks others d h t = record { tasks_fit = t; late = h.late; held = h.held; callers = h.callers; rising = h.rising }
 
 -- a begun transaction keeps its client
-kept_by : (requests : List Request) (x : Caller) → ((without_request_by requests x).number ≡ x.number) × ((without_request_by requests x).under_way ≡ x.under_way)
+pub kept_by : (requests : List Request) (x : Caller) → ((without_request_by requests x).number ≡ x.number) × ((without_request_by requests x).under_way ≡ x.under_way)
 kept_by [] x = (refl, refl)
 kept_by (request ∷ requests) x = (refl, refl)
 
@@ -73,11 +74,10 @@ set_there (y ∷ ys) (suc place) x h = set_there ys place x (omega (arith, h))
 
 -- what is asked for of an attempt that is begun
 trial_begun : (seq : ℕ) (caller : Caller) (request : Request) (xs : List Caller) → find (is_caller caller.number) xs ≡ Some caller → next_request caller ≡ Some request →
-    is_some (trial_by seq (find (is_caller caller.number) (change (is_caller caller.number) (begun seq) xs))) ≡ true
+    trial_by seq (find (is_caller caller.number) (change (is_caller caller.number) (begun seq) xs)) ≡ Some request
 trial_begun seq caller request xs found q =
-    subst (λ (o : Option Caller). is_some (trial_by seq o) ≡ true)
-    (sym (find-change (is_caller caller.number) (begun seq) xs (λ x. ap (λ (n : ℕ). n == caller.number) (kept_by x.retries x).0) ∙ ap (option_map (begun seq)) found))
-    (subst (λ (o : Option (Option Request)). is_some (asked o) ≡ true) (sym (set_there places seq (next_request caller) room)) (ap is_some q))
+    ap (trial_by seq) (find-change (is_caller caller.number) (begun seq) xs (λ x. ap (λ (n : ℕ). n == caller.number) (kept_by x.retries x).0) ∙ ap (option_map (begun seq)) found)
+    ∙ ap asked (set_there places seq (next_request caller) room) ∙ q
   where
     trials : List (Option Request)
     trials = (without_request caller).trials
@@ -99,7 +99,7 @@ module _ (rules : RuleLines) (round : Setting) (c : ColumnState) (k : ColumnFits
   TurnFits Nothing = Unit {0}
   TurnFits (Silent d) = Done rules round c k idle none tasks d
   TurnFits (Steps step after d) =
-      IsSure round c step × (blocked round c step ≡ None → (place : ℕ) → WholeFits (column_after_of step) d ((after ++ Turns place true ∷ []) ++ d.agenda))
+      IsSureWithPlace round c step × (blocked round c step ≡ None → (place : ℕ) → WholeFits (column_after_of step) d ((after ++ Turns place true ∷ []) ++ d.agenda))
     where
       column_after_of : Step → ColumnState
       column_after_of step = After rules round c k idle none step
@@ -266,7 +266,7 @@ module _ (rules : RuleLines) (round : Setting) (c : ColumnState) (k : ColumnFits
   -- ---- beginning
 
   begin_fits : (client : ClientState) (caller : Caller) (reader : Option ℕ) (d : DriverState) → reader_for round caller.home client.heard ≡ reader → client_of c caller.number ≡ Some client → RestsAt caller.number d.callers →
-      ((seq : ℕ) → is_some (trial_by seq (find (is_caller caller.number) (change_caller caller.number (begun seq) d).callers)) ≡ true) →
+      ((seq : ℕ) → (request : Request) × (trial_by seq (find (is_caller caller.number) (change_caller caller.number (begun seq) d).callers) ≡ Some request)) →
       Done rules round c k idle none tasks d → TurnFits (begin_by client caller reader d)
   begin_fits client caller (Some replica) d q e rests trial g =
       let changed = same_callers rules round c k idle none tasks caller.number (begun client.next_seq) d (λ x. (kept_by x.retries x).0) (λ x. (kept_by x.retries x).1) g in
@@ -277,7 +277,7 @@ module _ (rules : RuleLines) (round : Setting) (c : ColumnState) (k : ColumnFits
             begun_going round c k caller.number replica client e,
             stays_unsent round.faults c new step k (moved rules round c k idle none step b) id refl (begun_unsent round.faults c k caller.number client e),
             still,
-            trial client.next_seq,
+            (let asked = trial client.next_seq in begin_goes round c k (change_caller caller.number (begun client.next_seq) d).callers caller.number replica client asked.0 e idle asked.1),
             begun_reading round c k caller.number replica client e,
           ),
           begun_reads round c caller.number replica client e none,
@@ -307,14 +307,14 @@ module _ (rules : RuleLines) (round : Setting) (c : ColumnState) (k : ColumnFits
       )
 
   begin_of_fits : (client : Option ClientState) (caller : Caller) (d : DriverState) → client_of c caller.number ≡ client → RestsAt caller.number d.callers →
-      ((seq : ℕ) → is_some (trial_by seq (find (is_caller caller.number) (change_caller caller.number (begun seq) d).callers)) ≡ true) →
+      ((seq : ℕ) → (request : Request) × (trial_by seq (find (is_caller caller.number) (change_caller caller.number (begun seq) d).callers) ≡ Some request)) →
       Done rules round c k idle none tasks d → TurnFits (begin_of round client caller d)
   begin_of_fits (Some client) caller d e rests trial g = begin_fits client caller (reader_for round caller.home client.heard) d refl e rests trial g
   begin_of_fits None caller d e rests trial g = tt
 
   begin_next_fits : (caller : Caller) (request : Option Request) (d : DriverState) → next_request caller ≡ request → find (is_caller caller.number) d.callers ≡ Some caller →
       RestsAt caller.number d.callers → Done rules round c k idle none tasks d → TurnFits (begin_next round c caller request d)
-  begin_next_fits caller (Some request) d q found rests g = begin_of_fits (client_of c caller.number) caller d refl rests (λ seq. trial_begun seq caller request d.callers found q) g
+  begin_next_fits caller (Some request) d q found rests g = begin_of_fits (client_of c caller.number) caller d refl rests (λ seq. (request, trial_begun seq caller request d.callers found q)) g
   begin_next_fits caller None d q found rests g = tt
 
   turn_by_fits : (place : ℕ) (caller : Caller) (u : Option Stage) (d : DriverState) → slice_get d.callers place ≡ Some caller → caller.under_way ≡ u → UnderWayFits c caller.number u →

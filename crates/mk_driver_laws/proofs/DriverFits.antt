@@ -1,6 +1,6 @@
 -- What the tasks and the clients of a driver mean about its column.
 use Rattle.std.proofs.Common.{◌≡◌, ◌⊎◌, inl, inr, ◌∙◌, ◌<◌, ◌≤◌, ℕ, zero, suc, ◌+◌, Bool, true, false, refl, sym, subst, ap, arith, List, [], ◌∷◌, ◌++◌, length, Option, Some, None, if◌then◌else◌}
-use Rattle.std.specs.Prelude.{is_some, find, slice_get, ◌==◌}
+use Rattle.std.specs.Prelude.{slice_get, ◌==◌}
 use Rattle.std.proofs.lemmas.Bool.Decides.{nat_tests}
 use Rattle.mk_lists.specs.Among.{Each, Each-weaker}
 use Rattle.mk_lists.specs.Changed.{change, Each-change}
@@ -15,11 +15,12 @@ use Rattle.mk_driver.specs.declared.DriverState.{DriverState}
 use Rattle.mk_driver.specs.declared.Caller.{Caller}
 use Rattle.mk_driver.specs.declared.Stage.{Stage}
 use Rattle.mk_driver.specs.Keeping.{IsRising, numbers_of}
-use Rattle.mk_driver.specs.Agenda.{is_caller, trial_by}
+use Rattle.mk_driver.specs.Agenda.{is_caller}
 use Rattle.mk_driver.specs.Stages.{resting, at_stage}
 use Rattle.mk_driver_laws.proofs.ColumnMoves.{stops, validates}
 use Rattle.mk_driver_laws.proofs.Reading.{NoneReads, OneReads}
 use Rattle.mk_driver_laws.proofs.Frames.{IsReading, IsGoing, IsLive, IsUnsent}
+use Rattle.mk_driver_laws.proofs.ReadKeys.{FetchKeys}
 
 -- the number is one of a message in a link of this length
 abbrev pub InLink : ℕ → ℕ → Type 0
@@ -79,10 +80,10 @@ BehindFits n (SettleTakeover id view) = Unit {0}
 abbrev pub Behind : ℕ → List Task → Type 0
 Behind n tasks = Each (BehindFits n) tasks
 
--- an attempt that reads has something that was asked for
+-- an attempt that reads was asked for something, and has read the first keys of it
 abbrev pub FetchFits : ColumnState → List Caller → TxnId → Type 0
 FetchFits c callers id =
-    IsGoing c id × IsUnsent c id × RestsAt id.client callers × (is_some (trial_by id.seq (find (is_caller id.client) callers)) ≡ true) × IsReading c id
+    IsGoing c id × IsUnsent c id × RestsAt id.client callers × FetchKeys c callers id × IsReading c id
 
 abbrev pub ReachFits : ColumnState → List Caller → TxnId → Point → Type 0
 ReachFits c callers id point = StageFits c id point × RestsAt id.client callers

@@ -94,48 +94,34 @@ module _ (f : ℕ) (c new : ColumnState) (step : Step) (m : Moves f c new step) 
           (and_both (is_some b.txn) (not b.stopped) (h.txn (and_left (is_some a.txn) (not a.stopped) was)) (ap not (h.stopped s) ∙ and_right (is_some a.txn) (not a.stopped) was))
 
 -- the attempt that a Begin begins
-pub begun_going : (round : Setting) (c : ColumnState) → ColumnFits round.faults c → (n replica : ℕ) (cl : ClientState) → client_of c n ≡ Some cl →
-    IsGoing (column_after round c (Begin n replica)) (record { client = n; seq = cl.next_seq })
-begun_going round c k n replica cl e =
-    subst (λ (o : Option ClientState). passes is_going (find (is_attempt (record { client = n; seq = cl.next_seq })) (on_some (beginning round replica (epoch_of (slice_get round.views replica))) o c).attempts) ≡ true)
-    (sym e) there_is
+pub begun_found : (round : Setting) (c : ColumnState) → ColumnFits round.faults c → (n replica : ℕ) (cl : ClientState) → client_of c n ≡ Some cl →
+    attempt_of (column_after round c (Begin n replica)) (record { client = n; seq = cl.next_seq })
+    ≡ Some (new_attempt round.faults (record { client = n; seq = cl.next_seq }) replica (epoch_of (slice_get round.views replica)))
+begun_found round c k n replica cl e =
+    subst (λ (o : Option ClientState). find (is_attempt (record { client = n; seq = cl.next_seq })) (on_some (beginning round replica epoch) o c).attempts ≡ Some (begins n)) (sym e)
+    (subst (λ (m : ℕ). find (is_attempt (record { client = m; seq = cl.next_seq })) (c.attempts ++ begins cl.number ∷ []) ≡ Some (begins m)) number
+    (find-pushed (is_attempt (next_id cl)) c.attempts (begins cl.number) (fresh_id round.faults c k [] cl own) (same_id-itself (next_id cl))))
   where
+    epoch : ℕ
+    epoch = epoch_of (slice_get round.views replica)
+
+    begins : ℕ → AttemptState
+    begins m = new_attempt round.faults (record { client = m; seq = cl.next_seq }) replica epoch
+
     number : cl.number ≡ n
     number = eqb-tells cl.number n (find-passes (is_client n) c.clients cl e)
 
     own : client_of c cl.number ≡ Some cl
     own = ap (client_of c) number ∙ e
 
-    found : find (is_attempt (next_id cl)) (c.attempts ++ new_attempt round.faults (next_id cl) replica (epoch_of (slice_get round.views replica)) ∷ [])
-        ≡ Some (new_attempt round.faults (next_id cl) replica (epoch_of (slice_get round.views replica)))
-    found = find-pushed (is_attempt (next_id cl)) c.attempts _ (fresh_id round.faults c k [] cl own) (same_id-itself (next_id cl))
-
-    there_is : passes is_going (find (is_attempt (record { client = n; seq = cl.next_seq })) (c.attempts ++ new_attempt round.faults (next_id cl) replica (epoch_of (slice_get round.views replica)) ∷ [])) ≡ true
-    there_is =
-        subst (λ (m : ℕ). passes is_going (find (is_attempt (record { client = m; seq = cl.next_seq })) (c.attempts ++ new_attempt round.faults (next_id cl) replica (epoch_of (slice_get round.views replica)) ∷ [])) ≡ true) number
-        (passes-at is_going _ _ found refl)
+pub begun_going : (round : Setting) (c : ColumnState) → ColumnFits round.faults c → (n replica : ℕ) (cl : ClientState) → client_of c n ≡ Some cl →
+    IsGoing (column_after round c (Begin n replica)) (record { client = n; seq = cl.next_seq })
+begun_going round c k n replica cl e = passes-at is_going _ _ (begun_found round c k n replica cl e) refl
 
 -- it reads
 pub begun_reading : (round : Setting) (c : ColumnState) → ColumnFits round.faults c → (n replica : ℕ) (cl : ClientState) → client_of c n ≡ Some cl →
     IsReading (column_after round c (Begin n replica)) (record { client = n; seq = cl.next_seq })
-begun_reading round c k n replica cl e =
-    subst (λ (o : Option ClientState). passes is_reading (find (is_attempt (record { client = n; seq = cl.next_seq })) (on_some (beginning round replica (epoch_of (slice_get round.views replica))) o c).attempts) ≡ true)
-    (sym e) there_is
-  where
-    number : cl.number ≡ n
-    number = eqb-tells cl.number n (find-passes (is_client n) c.clients cl e)
-
-    own : client_of c cl.number ≡ Some cl
-    own = ap (client_of c) number ∙ e
-
-    found : find (is_attempt (next_id cl)) (c.attempts ++ new_attempt round.faults (next_id cl) replica (epoch_of (slice_get round.views replica)) ∷ [])
-        ≡ Some (new_attempt round.faults (next_id cl) replica (epoch_of (slice_get round.views replica)))
-    found = find-pushed (is_attempt (next_id cl)) c.attempts _ (fresh_id round.faults c k [] cl own) (same_id-itself (next_id cl))
-
-    there_is : passes is_reading (find (is_attempt (record { client = n; seq = cl.next_seq })) (c.attempts ++ new_attempt round.faults (next_id cl) replica (epoch_of (slice_get round.views replica)) ∷ [])) ≡ true
-    there_is =
-        subst (λ (m : ℕ). passes is_reading (find (is_attempt (record { client = m; seq = cl.next_seq })) (c.attempts ++ new_attempt round.faults (next_id cl) replica (epoch_of (slice_get round.views replica)) ∷ [])) ≡ true) number
-        (passes-at is_reading _ _ found refl)
+begun_reading round c k n replica cl e = passes-at is_reading _ _ (begun_found round c k n replica cl e) refl
 
 -- an attempt reads on while a key is read and answered
 passes_change : (test : AttemptState → Bool) (p q : AttemptState → Bool) (g : AttemptState → AttemptState) (xs : List AttemptState) → ((x : AttemptState) → q (g x) ≡ q x) →

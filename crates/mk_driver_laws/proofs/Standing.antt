@@ -14,6 +14,7 @@ use Rattle.mk_quorum.specs.Slots.{passes}
 use Rattle.mk_script.specs.declared.lines.Point.{Point}
 use Rattle.mk_script.specs.declared.lines.Point.TheVariants.{Read as AfterRead, Votes as AfterVotes, Accepts as AfterAccepts}
 use Rattle.mk_script.specs.Scripts.{ScriptParts}
+use Rattle.mk_script.specs.Whole.{IsWhole}
 use Rattle.mk_script.specs.declared.lines.ClientLine.{ClientLine}
 use Rattle.mk_faults.specs.Fates.{rules_of}
 use Rattle.mk_cell.specs.declared.Answer.{Answer}
@@ -35,8 +36,9 @@ use Rattle.mk_driver.specs.declared.Task.{Task}
 use Rattle.mk_driver.specs.declared.Task.TheVariants.{Take}
 use Rattle.mk_driver.specs.Keeping.{IsRising, numbers_of}
 use Rattle.mk_driver.specs.Turns.{Choice, choice}
-use Rattle.mk_driver.specs.Driven.{Standing, PastRound, IsNamed, asked_more, callers_from, client_columns_of, first_standing, lines_of_round, next_at, reset_by_line, reset_by_lines, round_at, round_ended, setting_in, standing_after, standing_at, standing_begun, standing_past, standing_through}
-use Rattle.mk_driver_laws.specs.Enabled.{IsDone, AreDone, NamedIsEnabled}
+use Rattle.mk_driver.specs.Driven.{Standing, PastRound, IsNamed, asked_more, callers_from, client_columns_of, first_standing, lines_of_round, next_at, reset_by_line, reset_by_lines, round_at, round_ended, setting_in, standing_after, standing_at, standing_begun, standing_past, standing_through, turn}
+use Rattle.mk_driver_laws.specs.Enabled.{IsDone, AreDone, HasCome}
+use Rattle.mk_driver_laws.proofs.Sure.{IsSureWithPlace}
 use Rattle.mk_driver_laws.proofs.ColumnMoves.{Moves, stays_unsent, AttemptFits, ColumnFits, column_fits}
 use Rattle.mk_driver_laws.proofs.Taking.{step_moves}
 use Rattle.mk_driver_laws.proofs.Frames.{key_keeps, link_grows, stays_going, is_live, IsLive}
@@ -45,14 +47,18 @@ use Rattle.mk_driver_laws.proofs.Walk.{harmless_after}
 use Rattle.mk_driver_laws.proofs.Named.{NamedFits}
 use Rattle.mk_driver_laws.proofs.Reading.{Reads, step_reads}
 use Rattle.mk_driver_laws.proofs.Choices.{choice_fits}
+use Rattle.mk_driver_laws.proofs.Requests.{round_asks}
+use Rattle.mk_driver_laws.proofs.ReadKeys.{key_goes}
+use Rattle.mk_driver_laws.proofs.Asked.{Asks, asked_asks, choice_asks, new_asks}
 
 -- a column and a driver with these tasks left
-pub record StandingFits (f : ℕ) (tasks : List Task) (standing : Standing) : Type 0 where
+pub record StandingFits (f keys : ℕ) (tasks : List Task) (standing : Standing) : Type 0 where
   pub column : ColumnFits f standing.column
   pub driver : WholeFits standing.column standing.driver tasks
+  pub asks : Asks keys standing.driver
 
 abbrev pub Fits : ScriptParts → Standing → Type 0
-Fits script standing = let driver = standing.driver in StandingFits script.size driver.agenda standing
+Fits script standing = let driver = standing.driver in StandingFits script.size (length script.keys) driver.agenda standing
 
 -- ---- a step
 
@@ -63,7 +69,7 @@ key_fits round c k call answer b tasks d h =
     elim (whole_split c tasks d h) [
       | inl f ↦ (let id = f.id in let fetch = f.fetch in let rest = f.rest in
           subst (λ (ts : List Task). WholeFits new d ts) (sym f.first) (
-            (stays_going round.faults c new step m id refl fetch.0, stays_unsent round.faults c new step k m id refl fetch.1, fetch.2, fetch.3, key_keeps round c call answer id fetch.4),
+            (stays_going round.faults c new step m id refl fetch.0, stays_unsent round.faults c new step k m id refl fetch.1, fetch.2, key_goes round c d.callers id call answer b fetch.3, key_keeps round c call answer id fetch.4),
             step_reads (λ other. other ≡ id) round c step refl f.one,
             behind_more (length c.link) (length new.link) (link_grows round.faults c new step m) rest f.behind,
             harmless_after round c k step ((λ i. refl), λ i u. refl) b rest d f.driver,
@@ -86,7 +92,8 @@ step_fits : (script : ScriptParts) (views : List ReplicaView) (standing : Standi
 step_fits script views standing step fits named b =
     record {
       column = column_fits script.size standing.column (column_after round standing.column step) step fits.column (step_moves round standing.column step fits.column b);
-      driver = by chosen.next chosen.driver (choice_fits (rules_of script) round standing.column fits.column standing.driver fits.driver) step named b;
+      driver = by chosen.next chosen.driver (choice_fits (rules_of script) round standing.column fits.column standing.driver fits.asks fits.driver) step named b;
+      asks = choice_asks (rules_of script) round standing.column (length script.keys) standing.driver fits.asks;
     }
   where
     round : Setting
@@ -217,7 +224,7 @@ none_end (x ∷ xs) = ((λ r. cc r), none_end xs)
 
 -- where nothing is named any more, no task is left
 ended_fits : (script : ScriptParts) (views : List ReplicaView) (globals : List GlobalEntry) (standing : Standing) → Fits script standing →
-    next_at script (setting_in script views) standing ≡ Over → StandingFits script.size [] (round_ended script (setting_in script views) globals standing)
+    next_at script (setting_in script views) standing ≡ Over → StandingFits script.size (length script.keys) [] (round_ended script (setting_in script views) globals standing)
 ended_fits script views globals standing fits over =
     record {
       column = end.fits script.size fits.column;
@@ -225,6 +232,7 @@ ended_fits script views globals standing fits over =
         none_end (reset_by_lines globals standing.column).attempts,
         driver_at_end standing.column (reading_ended (reset_by_lines globals standing.column)) end chosen.driver (at_over over_fits),
       );
+      asks = choice_asks (rules_of script) round standing.column (length script.keys) standing.driver fits.asks;
     }
   where
     round : Setting
@@ -234,7 +242,7 @@ ended_fits script views globals standing fits over =
     chosen = choice (rules_of script) round standing.column standing.driver
 
     over_fits : NamedFits round standing.column Over chosen.driver
-    over_fits = subst (λ (next : Next). NamedFits round standing.column next chosen.driver) over (choice_fits (rules_of script) round standing.column fits.column standing.driver fits.driver)
+    over_fits = subst (λ (next : Next). NamedFits round standing.column next chosen.driver) over (choice_fits (rules_of script) round standing.column fits.column standing.driver fits.asks fits.driver)
 
     at_over : NamedFits round standing.column Over chosen.driver → DriverFits standing.column [] chosen.driver
     at_over h = h.1
@@ -253,12 +261,12 @@ asked_callers : (c : ColumnState) (submissions : List Submission) (xs : List Cal
 asked_callers c submissions [] h = tt
 asked_callers c submissions (x ∷ xs) h = (h.0, asked_callers c submissions xs h.1)
 
-asked_numbers : (submissions : List Submission) (xs : List Caller) → numbers_of (map (asked_more submissions) xs) ≡ numbers_of xs
+pub asked_numbers : (submissions : List Submission) (xs : List Caller) → numbers_of (map (asked_more submissions) xs) ≡ numbers_of xs
 asked_numbers submissions [] = refl
 asked_numbers submissions (x ∷ xs) = ap (λ ns. x.number ∷ ns) (asked_numbers submissions xs)
 
-begun_fits : (script : ScriptParts) (number : ℕ) (standing : Standing) → StandingFits script.size [] standing → Fits script (standing_begun script number standing)
-begun_fits script number standing h =
+begun_fits : (script : ScriptParts) → IsWhole script → (number : ℕ) (standing : Standing) → StandingFits script.size (length script.keys) [] standing → Fits script (standing_begun script number standing)
+begun_fits script whole number standing h =
     let d = h.driver.1 in
     let lines = lines_of_round script (round_at script number) in
     let begun = standing_begun script number standing in
@@ -271,6 +279,7 @@ begun_fits script number standing h =
         callers = asked_callers standing.column lines.submissions standing.driver.callers d.callers;
         rising = subst IsRising (sym (asked_numbers lines.submissions standing.driver.callers)) d.rising;
       });
+      asks = asked_asks (length script.keys) lines.submissions standing.driver.callers (round_asks script whole number) h.asks;
     }
 
 -- ---- the first round
@@ -285,7 +294,7 @@ from_number column n m (line ∷ lines) e = head (line.column == column) (from_n
     head true rest = (e, rest)
     head false rest = rest
 
-first_rising : (column n : ℕ) (lines : List ClientLine) → IsRising (numbers_of (callers_from column n lines))
+pub first_rising : (column n : ℕ) (lines : List ClientLine) → IsRising (numbers_of (callers_from column n lines))
 first_rising column n [] = tt
 first_rising column n (line ∷ lines) = head (line.column == column) (first_rising column (n + 1) lines)
   where
@@ -306,7 +315,7 @@ first_callers c column n (line ∷ lines) = head (line.column == column) (first_
     head true rest = (tt, rest)
     head false rest = rest
 
-first_fits : (script : ScriptParts) (c : ℕ) → StandingFits script.size [] (first_standing script c)
+first_fits : (script : ScriptParts) (c : ℕ) → StandingFits script.size (length script.keys) [] (first_standing script c)
 first_fits script c =
     record {
       column = record {
@@ -327,24 +336,27 @@ first_fits script c =
           rising = first_rising c 1 script.clients;
         },
       );
+      asks = new_asks (length script.keys) c 1 script.clients;
     }
 
-past_fits : (script : ScriptParts) (c number : ℕ) (standing : Standing) (rounds : List PastRound) → StandingFits script.size [] standing →
+past_fits : (script : ScriptParts) → IsWhole script → (c number : ℕ) (standing : Standing) (rounds : List PastRound) → StandingFits script.size (length script.keys) [] standing →
     AreDone script c number standing rounds → Fits script (standing_past script c number standing rounds)
-past_fits script c number standing [] h done = begun_fits script number standing h
-past_fits script c number standing (past ∷ rounds) h done =
-    past_fits script c (number + 1) _ rounds
+past_fits script whole c number standing [] h done = begun_fits script whole number standing h
+past_fits script whole c number standing (past ∷ rounds) h done =
+    past_fits script whole c (number + 1) _ rounds
     (ended_fits script past.views past.round.globals _
-    (through_fits script past.views (standing_begun script number standing) (log_of past.round c) (begun_fits script number standing h) done.0) done.1)
+    (through_fits script past.views (standing_begun script number standing) (log_of past.round c) (begun_fits script whole number standing h) done.0) done.1)
     done.2
 
--- wherever the turns name a step, it is enabled
-pub named_is_enabled : NamedIsEnabled
-named_is_enabled script c rounds views log come step e =
+-- wherever the turns name a step, it is enabled once its client is known to have a place left
+pub named_with_place : (script : ScriptParts) → IsWhole script → (c : ℕ) (rounds : List PastRound) (views : List ReplicaView) (log : List Step) →
+    HasCome script c rounds views log → (step : Step) → turn script c rounds views log ≡ StepNext step →
+    IsSureWithPlace (setting_in script views) (let standing = standing_at script c rounds views log in standing.column) step
+named_with_place script whole c rounds views log come step e =
     let standing = standing_at script c rounds views log in
     let fits : Fits script standing =
     through_fits script views (standing_past script c 0 (first_standing script c) rounds) log
-    (past_fits script c 0 (first_standing script c) rounds (first_fits script c) come.past) come.done in
+    (past_fits script whole c 0 (first_standing script c) rounds (first_fits script c) come.past) come.done in
     let named = subst (λ (next : Next). NamedFits (setting_in script views) standing.column next (let chosen = choice (rules_of script) (setting_in script views) standing.column standing.driver in chosen.driver)) e
-    (choice_fits (rules_of script) (setting_in script views) standing.column fits.column standing.driver fits.driver) in
+    (choice_fits (rules_of script) (setting_in script views) standing.column fits.column standing.driver fits.asks fits.driver) in
     named.0

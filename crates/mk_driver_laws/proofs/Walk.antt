@@ -29,7 +29,7 @@ use Rattle.mk_driver.specs.Agenda.Worked.{Quiet, Names}
 use Rattle.mk_driver.specs.Delivery.{follow_ups, taking, taking_by, by_fate, delivering, delivering_from, taking_late, done_with, tried_again, noticed}
 use Rattle.mk_driver.specs.Settling.{was_validated, settle_by, settle_takeover_by, takeover_by, resume_with, resume_if, resume_by}
 use Rattle.mk_driver.specs.Stages.{at_stage, stopping, reach_by}
-use Rattle.mk_driver_laws.specs.Enabled.{IsSure}
+use Rattle.mk_driver_laws.proofs.Sure.{IsSureWithPlace}
 use Rattle.mk_driver_laws.proofs.Lookups.{same_id-tells, passes-at, and_both}
 use Rattle.mk_driver_laws.proofs.Conditions.{none_fails}
 use Rattle.mk_driver_laws.proofs.ColumnMoves.{WasSent, stops, validates, ColumnFits, Moves, stays_unsent}
@@ -127,14 +127,14 @@ module _ (rules : RuleLines) (round : Setting) (c : ColumnState) (k : ColumnFits
   -- what comes of a task
   abbrev pub WorkedFits : List Task → Worked → Type 0
   WorkedFits tasks (Quiet d) = (d.agenda ≡ tasks) × DriverFits c tasks d
-  WorkedFits tasks (Names step after d) = IsSure round c step × (blocked round c step ≡ None → WholeFits (After step) d (after ++ d.agenda))
+  WorkedFits tasks (Names step after d) = IsSureWithPlace round c step × (blocked round c step ≡ None → WholeFits (After step) d (after ++ d.agenda))
 
   -- plain tasks in front
   pub front : (after : List Task) (d : DriverState) → Each (PlainFits (length c.link)) after → DriverFits c d.agenda d → DriverFits c (after ++ d.agenda) d
   front after d a fits =
       record { tasks_fit = plain_front c d.callers after d.agenda a fits.tasks_fit; late = fits.late; held = fits.held; callers = fits.callers; rising = fits.rising }
 
-  pub plain_named : (tasks : List Task) (step : Step) (after : List Task) (d : DriverState) → IsHarmless step → begins step ≡ false → IsSure round c step → Each (PlainFits (length c.link)) after →
+  pub plain_named : (tasks : List Task) (step : Step) (after : List Task) (d : DriverState) → IsHarmless step → begins step ≡ false → IsSureWithPlace round c step → Each (PlainFits (length c.link)) after →
       DriverFits c d.agenda d → WorkedFits tasks (Names step after d)
   plain_named tasks step after d h q sure a fits =
       (sure, λ b. whole_plain (After step) (after ++ d.agenda) d (step_reads (λ i. ⊥) round c step q none) (after_harmless step h b (after ++ d.agenda) d (front after d a fits)))

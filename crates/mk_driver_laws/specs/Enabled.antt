@@ -1,13 +1,16 @@
 -- That the step which the driver's turns name is enabled.
-use Rattle.std.specs.Prelude.{true, ◌≡◌, ◌⊎◌, Some, ◌≤◌, ℕ, ◌+◌, List, [], ◌∷◌, length, None}
+use Rattle.std.specs.Prelude.{◌≡◌, ◌⊎◌, Some, ◌≤◌, ◌<◌, ℕ, ◌+◌, ◌^◌, List, [], ◌∷◌, length, None}
+use Rattle.mk_txn.specs.declared.TxnId.{TxnId}
+use Rattle.mk_txn.specs.Stamps.{fresh_time}
 use Rattle.mk_quorum.specs.Sizes.{members}
 use Rattle.mk_merge.specs.declared.ReplicaView.{ReplicaView}
 use Rattle.mk_script.specs.Scripts.{ScriptParts}
+use Rattle.mk_script.specs.Whole.{IsWhole}
 use Rattle.mk_history.specs.Histories.{log_of}
 use Rattle.mk_column.specs.declared.Step.{Step}
-use Rattle.mk_column.specs.declared.Step.TheVariants.{Begin, Unread, Read, Stamp}
-use Rattle.mk_column.specs.ColumnState.{Setting, ColumnState}
-use Rattle.mk_column.specs.Conditions.{blocked, is_idle, on_attempt}
+use Rattle.mk_column.specs.declared.Step.TheVariants.{Unread, Stamp}
+use Rattle.mk_column.specs.ColumnState.{Setting, ColumnState, AttemptState, ClientState, attempt_of, client_of}
+use Rattle.mk_column.specs.Conditions.{blocked}
 use Rattle.mk_driver.specs.declared.Next.TheVariants.{Step as StepNext, Over}
 use Rattle.mk_driver.specs.Driven.{Standing, PastRound, IsNamed, first_standing, next_at, round_ended, setting_in, standing_after, standing_at, standing_begun, standing_past, standing_through, turn}
 
@@ -33,22 +36,28 @@ pub record HasCome (script : ScriptParts) (c : ℕ) (rounds : List PastRound) (v
   pub past : AreDone script c 0 (first_standing script c) rounds
   pub done : IsDone script (setting_in script views) (standing_past script c 0 (first_standing script c) rounds) log
 
--- The step is enabled. Of a Begin and an Unread the fourth condition is left open, that its client has a place left, and an
--- Unread wants no more views than there are replicas. Of a Read and a Stamp the first two conditions hold: no key call is under
--- way, and the attempt reads.
+-- the attempt's stamp at this clock would be later than the last time
+pub record IsTooLate (column : ColumnState) (id : TxnId) (clock : ℕ) : Type 0 where
+  pub attempt : AttemptState
+  pub client : ClientState
+  pub there : attempt_of column id ≡ Some attempt
+  pub its_client : client_of column id.client ≡ Some client
+  pub late : 2 ^ 62 < fresh_time client.last_time clock attempt.reads
+
+-- The step is enabled. An Unread wants no more views than there are replicas. Of a Stamp the fourth condition may fail, which is
+-- that of its time, and then the clock is in bounds and the stamp would be too late.
 abbrev pub IsSure : Setting → ColumnState → Step → Type 0
-IsSure round column (Begin client replica) =
-    (blocked round column (Begin client replica) ≡ None) ⊎ (blocked round column (Begin client replica) ≡ Some 4)
-IsSure round column (Unread client) =
-    length round.views ≤ members round.faults →
-    (blocked round column (Unread client) ≡ None) ⊎ (blocked round column (Unread client) ≡ Some 4)
-IsSure round column (Read id key) = (is_idle column.work ≡ true) × (on_attempt column id (λ a. a.reading) ≡ true)
-IsSure round column (Stamp id clock writes) = (is_idle column.work ≡ true) × (on_attempt column id (λ a. a.reading) ≡ true)
+IsSure round column (Unread client) = length round.views ≤ members round.faults → blocked round column (Unread client) ≡ None
+IsSure round column (Stamp id clock writes) =
+    (blocked round column (Stamp id clock writes) ≡ None)
+    ⊎ ((blocked round column (Stamp id clock writes) ≡ Some 4) × (clock ≤ 2 ^ 61) × IsTooLate column id clock)
 IsSure round column step = blocked round column step ≡ None
 
--- wherever the turns name a step, it is enabled
+-- Wherever the turns name a step, it is enabled. The script keeps the limits that `IsWhole` lists, as the Model of every `Script` does
+-- by its invariant, so whatever `parse` gives keeps them: at most 3 retries, 4,096 transactions in all rounds together and 16
+-- items in each, keys below their number, and clocks up to 2^61.
 abbrev pub NamedIsEnabled : Type 0
 NamedIsEnabled =
-    (script : ScriptParts) (c : ℕ) (rounds : List PastRound) (views : List ReplicaView) (log : List Step) →
+    (script : ScriptParts) → IsWhole script → (c : ℕ) (rounds : List PastRound) (views : List ReplicaView) (log : List Step) →
     HasCome script c rounds views log → (step : Step) → turn script c rounds views log ≡ StepNext step →
     IsSure (setting_in script views) (let standing = standing_at script c rounds views log in standing.column) step
