@@ -1,5 +1,5 @@
 -- The keys that an attempt has read so far, and the one that it reads now, are the first of those that it wants.
-use Rattle.std.proofs.Common.{◌≡◌, ◌∙◌, ℕ, ◌+◌, Bool, true, false, refl, sym, subst, ap, List, [], ◌∷◌, ◌++◌, Option, Some, None, ◌&&◌}
+use Rattle.std.proofs.Common.{◌≡◌, ◌∙◌, ℕ, Bool, true, false, refl, sym, subst, ap, List, [], ◌∷◌, ◌++◌, Option, Some, None, ◌&&◌}
 use Rattle.std.specs.Prelude.{find, option_map, slice_get, ◌==◌}
 use Rattle.std.proofs.lemmas.List.{map-append, length-map}
 use Rattle.mk_lists.specs.Changed.{change}
