@@ -88,7 +88,6 @@ fn begun_column(alloc: Global, script: &Script, number: u32) -> Result<Column, N
 }
 
 // The driver in the first round.
-#[tactic(auto, using(crate::proofs::Firsts::first_there))]
 fn begun_driver(alloc: Global, script: &Script, number: u32) -> Result<Driver, NoMemory>
     requires { 0 < length script.now.rounds }
     ensures { IfOk result (λ driver. driver.size ≡ script.now.size) }

@@ -1,6 +1,6 @@
 -- The transactions of a script have at most 16 items.
 use Rattle.std.proofs.Common.{◌≡◌, ◌<◌, ℕ, zero, suc, List, [], ◌∷◌, arith, length, map, refl, ap}
-use Rattle.std.specs.Prelude.{slice_index_or, slice_get, IsSome}
+use Rattle.std.specs.Prelude.{slice_index_or}
 use Rattle.mk_lists.specs.Among.{Each}
 use Rattle.mk_script.specs.declared.lines.ClientLine.{ClientLine}
 use Rattle.mk_script.specs.declared.lines.TxnLine.{TxnLine}
@@ -34,8 +34,3 @@ pub each_at : {X : Type 0} (P : X → Type 0) (xs : List X) (place : ℕ) (d : X
 each_at P [] place d h l = absurd (omega (arith, l))
 each_at P (x ∷ xs) zero d h l = h.0
 each_at P (x ∷ xs) (suc place) d h l = each_at P xs place d h.1 (omega (arith, l))
-
--- some are there where there are some
-pub first_there : {X Y : Type 0} (f : X → Y) (xs : List X) → 0 < length xs → IsSome (slice_get (map f xs) 0)
-first_there f [] h = absurd (omega (arith, h))
-first_there f (x ∷ xs) h = refl

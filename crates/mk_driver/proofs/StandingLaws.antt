@@ -1,6 +1,6 @@
 -- What a driver with its column stands for, from step to step and from round to round.
 use Rattle.std.proofs.Common.{◌≡◌, ℕ, zero, suc, ◌+◌, ◌∙◌, List, [], ◌∷◌, ◌++◌, refl, sym, subst, ap, length, map, drop, arith}
-use Rattle.std.specs.Prelude.{slice_index_or}
+use Rattle.std.specs.Prelude.{◌<◌, slice_index_or, slice_get, IsSome}
 use Rattle.mk_merge.specs.declared.ReplicaView.{ReplicaView}
 use Rattle.mk_script.specs.Scripts.{ScriptParts}
 use Rattle.mk_faults.specs.Fates.{RuleLines, rules_of}
@@ -91,6 +91,22 @@ drop-more : {Y : Type 0} (n : ℕ) (y : Y) (ys xs : List Y) → drop n xs ≡ y 
 drop-more n y ys xs e =
     let next : suc n ≡ n + 1 = omega arith in
     subst (λ k. drop k xs ≡ ys) next (drop-next n y ys xs e)
+
+-- a list of which so many are dropped has a first where it has more
+left-past : {X Y : Type 0} (f : X → Y) (n : ℕ) (xs : List X) → n < length xs → IsSome (slice_get (drop n (map f xs)) 0)
+left-past f n [] h = absurd (omega (arith, h))
+left-past f zero (x ∷ xs) h = refl
+left-past f (suc n) (x ∷ xs) h = left-past f n xs (omega (arith, h))
+
+-- the lines of a round are left where the script has a round more
+pub left_in : (script : ScriptParts) (n : ℕ) → n < length script.rounds → IsSome (slice_get (drop n (map (lines_of_round script) script.rounds)) 0)
+left_in script n h = left-past (lines_of_round script) n script.rounds h
+
+-- so they are for a driver that stands
+pub left_where : (script : ScriptParts) (rounds : List PastRound) (views : List ReplicaView) (log : List Step) (driver : DriverView) (column : ColumnView) →
+    Stands script driver column rounds views log → length rounds + 1 < length script.rounds → IsSome (slice_get driver.rounds 0)
+left_where script rounds views log driver column s h =
+    rw s.lines (left_in script driver.round (rw s.round h))
 
 -- the lines with which a round begins are those of the script's round
 begun-lines : (script : ScriptParts) (n : ℕ) (lines : RoundLines) (rest : List RoundLines) (driver : DriverState) →

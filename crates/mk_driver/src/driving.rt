@@ -1,5 +1,5 @@
 //! The driver of one column.
-ghost use Rattle.std.specs.Prelude.{◌≡◌, ◌+◌, ◌++◌, ◌∷◌, [], ℕ, List, Some, slice_get, IsSome, IfOk, OnOk, OnErr};
+ghost use Rattle.std.specs.Prelude.{◌≡◌, ◌+◌, ◌<◌, ◌++◌, ◌∷◌, [], ℕ, List, length, Some, slice_get, IsSome, IfOk, OnOk, OnErr};
 ghost use Rattle.mk_faults.specs.Fates.{rules_of};
 ghost use Rattle.mk_merge.specs.declared.ReplicaView.{ReplicaView};
 ghost use Rattle.mk_script.specs.Scripts.{ScriptParts};
@@ -23,8 +23,10 @@ impl Driver {
     pub fn begin_round(&mut self, round: u32) -> Result<(), NoMemory>
         requires next { round ≡ self.old.round + 1 }
         requires left { IsSome (slice_get self.old.rounds 0) }
-        ensures { OnOk result ((lines : Lines) → slice_get self.old.rounds 0 ≡ Some lines →
+        ensures begun { OnOk result ((lines : Lines) → slice_get self.old.rounds 0 ≡ Some lines →
             self.new ≡ record self.old { round = round; rounds = after_lines self.old.rounds; driver = begun_with lines self.old.driver }) }
+        ensures size { self.new.size ≡ self.old.size }
+        ensures column { self.new.column ≡ self.old.column }
     {
         let Some(lines) = self.rounds.pop_front() else {
             unreachable!()
@@ -57,6 +59,13 @@ impl Driver {
 pub fn stands_at_first()
     ensures { (script : ScriptParts) (views : List ReplicaView) (driver : DriverView) (column : ColumnView) (number : ℕ) →
         IsFirst script number views driver column → Stands script driver column [] views [] }
+{}
+
+/// Where they stand and the script has a round more, its lines are left.
+pub fn next_round_is_left()
+    ensures { (script : ScriptParts) (rounds : List PastRound) (views : List ReplicaView) (log : List OneStep)
+        (driver : DriverView) (column : ColumnView) →
+        Stands script driver column rounds views log → length rounds + 1 < length script.rounds → IsSome (slice_get driver.rounds 0) }
 {}
 
 /// After a step they stand for the log with that step.

@@ -1,5 +1,5 @@
 //! The driver of a column before the first round.
-ghost use Rattle.std.specs.Prelude.{◌≡◌, ◌≤◌, [], None, length, map, IfOk};
+ghost use Rattle.std.specs.Prelude.{◌≡◌, ◌≤◌, ◌<◌, [], None, length, map, slice_get, IsSome, IfOk};
 ghost use Rattle.mk_driver.specs.Driven.{callers_from, new_driver, lines_of, submitted_by};
 ghost use Rattle.mk_lists.specs.Among.{Each};
 ghost use Rattle.mk_driver.specs.Keeping.{HasFew, HaveFew};
@@ -173,9 +173,10 @@ impl DriverState {
 
 impl Driver {
     /// The driver of this column before the first round.
-    #[tactic(auto, using(crate::proofs::FewLaws::whole_few))]
+    #[tactic(auto, using(crate::proofs::FewLaws::whole_few, crate::proofs::StandingLaws::left_in))]
     pub fn new(alloc: Global, script: &Script, column: u32) -> Result<Driver, NoMemory>
-        ensures { IfOk result (λ driver. driver ≡ driver_of script.now column) }
+        ensures driver { IfOk result (λ driver. driver ≡ driver_of script.now column) }
+        ensures left { IfOk result (λ driver. 0 < length script.now.rounds → IsSome (slice_get driver.rounds 0)) }
     {
         Ok(Driver {
             size: script.size,

@@ -4,7 +4,6 @@ use std::process::Abort;
 use std::test::Fail;
 
 #[test]
-#[tactic(auto, using(crate::proofs::FewLaws::first_there))]
 fn a_round_begins(rt: HostRuntime) -> Result<(), Fail> {
     let alloc = rt.alloc();
     let text =
