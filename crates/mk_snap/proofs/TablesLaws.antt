@@ -136,10 +136,6 @@ drawn_more base seen es e h other fit = record {
 pub drawn_next : (base : BaseState) (txn was : Transaction) (seen : List Transaction) (es made : List Entry) → txn ≡ was → ((past : List Transaction) → AreDrawn base past es → is_other txn.id past ≡ true → AreDrawn base (txn ∷ past) made) → AreDrawn base seen es → is_other was.id seen ≡ true → AreDrawn base (was ∷ seen) made
 drawn_next base txn was seen es made e f h o = subst (λ (t : Transaction). AreDrawn base (t ∷ seen) made) e (f seen h (subst (λ (t : Transaction). is_other t.id seen ≡ true) (sym e) o))
 
--- without third attempts
-pub drawn_early : (base : BaseState) (es : List Entry) → AreDrawn base seconds es → AreDrawn base pool es
-drawn_early base es h = drawn_skip base carol_third (bob_third ∷ alice_third ∷ seconds) es (drawn_skip base bob_third (alice_third ∷ seconds) es (drawn_skip base alice_third seconds es h))
-
 -- a vote that is Ok only where the transaction fits
 pub told_fits : (fits ok : Bool) → (fits ≡ false → ok ≡ false) → ok ≡ true → fits ≡ true
 told_fits true ok h e = refl

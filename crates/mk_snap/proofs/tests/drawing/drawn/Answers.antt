@@ -1,6 +1,6 @@
 use Rattle.std.proofs.Common.{refl, ◌∷◌}
 use Rattle.mk_snap.specs.Tables.{seconds, alice_third, bob_third, carol_third}
-use Rattle.mk_snap.proofs.TablesLaws.{drawn_next, drawn_early}
+use Rattle.mk_snap.proofs.TablesLaws.{drawn_next}
 use Rattle.mk_snap.proofs.tests.drawing.drawn.Goals as goal
 
 pub returns : goal.returns
