@@ -2,20 +2,20 @@
 use Rattle.std.proofs.Common.{◌≡◌, List, [], ◌∷◌, refl}
 use Rattle.mk_txn.specs.declared.Value.TheVariants.{Number}
 use Rattle.mk_txn.specs.declared.Outcome.TheVariants.{Commit}
-use Rattle.mk_cell.specs.declared.Act.TheVariants.{CheckWrite, CommitWrite}
-use Rattle.mk_cell.specs.declared.JournalEntry.{JournalEntry}
-use Rattle.mk_cell.specs.declared.Answer.TheVariants.{Okay, Done}
-use Rattle.mk_global.specs.declared.GlobalEntry.{GlobalEntry}
-use Rattle.mk_global.specs.declared.GlobalLine.TheVariants.{Ask, Promise as PromiseLine, Merge}
-use Rattle.mk_global.specs.declared.GlobalAnswer.TheVariants.{Ok as GlobalOk, Counts}
-use Rattle.mk_column.specs.declared.Step.{Step}
-use Rattle.mk_column.specs.declared.Step.TheVariants.{Begin, Stamp, Validate, Take, Key, Rule}
+use Rattle.mk_words.specs.declared.Act.TheVariants.{CheckWrite, CommitWrite}
+use Rattle.mk_words.specs.declared.JournalEntry.{JournalEntry}
+use Rattle.mk_words.specs.declared.Answer.TheVariants.{Okay, Done}
+use Rattle.mk_words.specs.declared.GlobalEntry.{GlobalEntry}
+use Rattle.mk_words.specs.declared.GlobalLine.TheVariants.{Ask, Promise as PromiseLine, Merge}
+use Rattle.mk_words.specs.declared.GlobalAnswer.TheVariants.{Ok as GlobalOk, Counts}
+use Rattle.mk_words.specs.declared.Step.{Step}
+use Rattle.mk_words.specs.declared.Step.TheVariants.{Begin, Stamp, Validate, Take, Key, Rule}
 use Rattle.mk_history.specs.declared.RoundLog.{RoundLog}
 use Rattle.mk_history.specs.declared.Path.TheVariants.{Fast}
 use Rattle.mk_history.specs.declared.State.TheVariants.{Learned}
 use Rattle.mk_history.specs.Histories.{History}
 use Rattle.mk_history.specs.Wholes.{first_state}
-use Rattle.mk_history.proofs.RunTrials.{disabled, globals_in, given_answers, cells_in, journaled, states}
+use Rattle.mk_history.proofs.RunTrials.{disabled, unfinished, turns_journaled, turns_logged, globals_in, given_answers, cells_in, journaled, states}
 
 abbrev pub log_1_0 : List Step
 log_1_0 =
@@ -67,7 +67,7 @@ globals_1 = record { line = Ask 1; answer = GlobalOk } ∷ (record { line = Prom
 abbrev round_1 : RoundLog
 round_1 = record { logs = log_1_0 ∷ []; journals = journals_1; globals = globals_1 }
 
-abbrev run : History
+abbrev pub run : History
 run =
     record {
       version = 2;
@@ -81,6 +81,12 @@ run =
 
 pub each_enabled : disabled run ≡ []
 each_enabled = refl
+
+pub all_finished : unfinished run ≡ []
+all_finished = refl
+
+pub acts_agree : turns_journaled run ≡ turns_logged run
+acts_agree = refl
 
 pub globals_answer : globals_in run (first_state run) run.rounds ≡ given_answers run
 globals_answer = refl

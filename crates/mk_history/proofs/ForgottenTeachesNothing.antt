@@ -3,21 +3,21 @@ use Rattle.std.proofs.Common.{◌≡◌, ℕ, List, [], ◌∷◌, refl}
 use Rattle.std.specs.Prelude.{Option, Some, None}
 use Rattle.mk_txn.specs.declared.TxnId.{TxnId}
 use Rattle.mk_txn.specs.declared.Outcome.TheVariants.{Commit}
-use Rattle.mk_cell.specs.declared.JournalEntry.{JournalEntry}
-use Rattle.mk_global.specs.declared.GlobalEntry.{GlobalEntry}
-use Rattle.mk_global.specs.declared.GlobalAnswer.{GlobalAnswer}
-use Rattle.mk_global.specs.declared.GlobalLine.TheVariants.{Ask, Promise as PromiseLine, Merge, Adopt, Enter}
-use Rattle.mk_global.specs.declared.GlobalAnswer.TheVariants.{Ok as GlobalOk, Counts, Entered}
-use Rattle.mk_column.specs.declared.Step.{Step}
-use Rattle.mk_column.specs.declared.Step.TheVariants.{Take, Takeover, Pick}
-use Rattle.mk_column.specs.Conditions.{blocked}
+use Rattle.mk_words.specs.declared.JournalEntry.{JournalEntry}
+use Rattle.mk_words.specs.declared.GlobalEntry.{GlobalEntry}
+use Rattle.mk_words.specs.declared.GlobalAnswer.{GlobalAnswer}
+use Rattle.mk_words.specs.declared.GlobalLine.TheVariants.{Ask, Promise as PromiseLine, Merge, Adopt, Enter}
+use Rattle.mk_words.specs.declared.GlobalAnswer.TheVariants.{Ok as GlobalOk, Counts, Entered}
+use Rattle.mk_words.specs.declared.Step.{Step}
+use Rattle.mk_words.specs.declared.Step.TheVariants.{Take, Takeover, Pick}
+use Rattle.mk_model.specs.Conditions.{blocked}
 use Rattle.mk_history.specs.declared.RoundLog.{RoundLog}
 use Rattle.mk_history.specs.declared.Path.TheVariants.{Fast}
 use Rattle.mk_history.specs.declared.State.TheVariants.{Learned}
 use Rattle.mk_history.specs.Histories.{History}
 use Rattle.mk_history.specs.Wholes.{first_state, after_logs, after_round, column_of, setting_of}
 use Rattle.mk_history.proofs.CoveredNotCounted.{log_1_0, journals_1}
-use Rattle.mk_history.proofs.RunTrials.{disabled, globals_in, given_answers, states}
+use Rattle.mk_history.proofs.RunTrials.{disabled, unfinished, globals_in, given_answers, states}
 
 abbrev id : TxnId
 id = record { client = 1; seq = 1 }
@@ -62,6 +62,9 @@ without_marks = run 1 (Counts 2 0)
 
 pub each_enabled : disabled with_marks ≡ []
 each_enabled = refl
+
+pub all_finished : unfinished with_marks ≡ []
+all_finished = refl
 
 pub globals_answer : globals_in with_marks (first_state with_marks) with_marks.rounds ≡ given_answers with_marks
 globals_answer = refl

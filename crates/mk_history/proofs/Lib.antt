@@ -1,14 +1,15 @@
 mod OneRun
+mod BrokenRuns
 mod RunTrials
-mod CoveredNotCounted
+pub mod CoveredNotCounted
 pub mod ForgottenTeachesNothing
-mod FailingWord
-mod SupersededEpochTeaches
-mod MovedTeachesTakeover
-mod TaughtCoordinator
-mod AbortKeepsFirstCause
+pub mod FailingWord
+pub mod SupersededEpochTeaches
+pub mod MovedTeachesTakeover
+pub mod TaughtCoordinator
+pub mod AbortKeepsFirstCause
 pub mod AbsentValues
-mod LateVotes
-mod NobodyServes
-mod UnclearTakeover
-mod WipedAndReadmitted
+pub mod LateVotes
+pub mod NobodyServes
+pub mod UnclearTakeover
+pub mod WipedAndReadmitted

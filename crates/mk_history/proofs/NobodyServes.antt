@@ -1,16 +1,16 @@
 -- Nobody serves.
 use Rattle.std.proofs.Common.{◌≡◌, List, [], ◌∷◌, refl}
-use Rattle.mk_global.specs.declared.GlobalEntry.{GlobalEntry}
-use Rattle.mk_global.specs.declared.GlobalLine.TheVariants.{Wipe}
-use Rattle.mk_global.specs.declared.GlobalAnswer.TheVariants.{Ok as GlobalOk}
-use Rattle.mk_column.specs.declared.Step.{Step}
-use Rattle.mk_column.specs.declared.Step.TheVariants.{Unread}
+use Rattle.mk_words.specs.declared.GlobalEntry.{GlobalEntry}
+use Rattle.mk_words.specs.declared.GlobalLine.TheVariants.{Wipe}
+use Rattle.mk_words.specs.declared.GlobalAnswer.TheVariants.{Ok as GlobalOk}
+use Rattle.mk_words.specs.declared.Step.{Step}
+use Rattle.mk_words.specs.declared.Step.TheVariants.{Unread}
 use Rattle.mk_history.specs.declared.RoundLog.{RoundLog}
 use Rattle.mk_history.specs.declared.Left.TheVariants.{Unread as LeftUnread}
 use Rattle.mk_history.specs.declared.State.TheVariants.{Left as LeftState}
 use Rattle.mk_history.specs.Histories.{History}
 use Rattle.mk_history.specs.Wholes.{first_state}
-use Rattle.mk_history.proofs.RunTrials.{disabled, globals_in, given_answers, cells_in, journaled, states}
+use Rattle.mk_history.proofs.RunTrials.{disabled, unfinished, turns_journaled, turns_logged, globals_in, given_answers, cells_in, journaled, states}
 
 abbrev log_1_0 : List Step
 log_1_0 =
@@ -32,7 +32,7 @@ globals_2 = []
 abbrev round_2 : RoundLog
 round_2 = record { logs = log_2_0 ∷ []; journals = ([] ∷ []) ∷ (([] ∷ []) ∷ (([] ∷ []) ∷ [])); globals = globals_2 }
 
-abbrev run : History
+abbrev pub run : History
 run =
     record {
       version = 1;
@@ -46,6 +46,12 @@ run =
 
 pub each_enabled : disabled run ≡ []
 each_enabled = refl
+
+pub all_finished : unfinished run ≡ []
+all_finished = refl
+
+pub acts_agree : turns_journaled run ≡ turns_logged run
+acts_agree = refl
 
 pub globals_answer : globals_in run (first_state run) run.rounds ≡ given_answers run
 globals_answer = refl

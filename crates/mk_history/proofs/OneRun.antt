@@ -1,64 +1,72 @@
--- The run of one transaction that writes one key at three replicas: it is legal, and with two journal entries exchanged it is not matched.
-use Rattle.std.proofs.Common.{◌≡◌, ◌<◌, ◌≤◌, ℕ, zero, suc, refl, arith, ap, inl, List, [], ◌∷◌}
+-- The run of one transaction that writes one key at three replicas: it is legal and safe, and with two journal entries exchanged it
+-- is not matched.
+use Rattle.std.proofs.Common.{◌≡◌, ◌<◌, ◌≤◌, ℕ, zero, suc, refl, sym, subst, ◌∙◌, arith, ap, inl, List, [], ◌∷◌}
 use Rattle.std.specs.Prelude.{map, sum}
+use Rattle.mk_lists.specs.Among.{Among, Each, Each-among}
 use Rattle.mk_txn.specs.declared.TxnId.{TxnId}
+use Rattle.mk_txn.specs.declared.ReadItem.{ReadItem}
+use Rattle.mk_txn.specs.declared.Outcome.{Outcome}
+use Rattle.mk_txn.specs.Outcomes.{agrees}
+use Rattle.mk_txn.specs.Transactions.{Transaction}
 use Rattle.mk_txn.specs.declared.Stamp.{Stamp as StampType}
 use Rattle.mk_txn.specs.declared.Value.TheVariants.{Number}
 use Rattle.mk_txn.specs.declared.Outcome.TheVariants.{Commit}
-use Rattle.mk_cell.specs.declared.Act.{Act}
-use Rattle.mk_cell.specs.declared.Act.TheVariants.{Get, CheckWrite, CommitWrite}
-use Rattle.mk_cell.specs.declared.Answer.TheVariants.{Okay, Done}
-use Rattle.mk_cell.specs.declared.JournalEntry.{JournalEntry}
-use Rattle.mk_cell.specs.Journals.{EachAnswered}
-use Rattle.mk_column.specs.declared.Step.{Step}
-use Rattle.mk_column.specs.declared.Step.TheVariants.{Begin, Stamp, Validate, Take, Key, Rule}
+use Rattle.mk_words.specs.declared.Act.{Act}
+use Rattle.mk_words.specs.declared.Act.TheVariants.{Get, CheckWrite, CommitWrite}
+use Rattle.mk_words.specs.declared.Answer.TheVariants.{Okay, Done}
+use Rattle.mk_words.specs.declared.JournalEntry.{JournalEntry}
+use Rattle.mk_words.specs.Journals.{EachAnswered}
+use Rattle.mk_words.specs.declared.Step.{Step}
+use Rattle.mk_words.specs.declared.Step.TheVariants.{Begin, Stamp, Validate, Take, Key, Rule}
 use Rattle.mk_history.specs.declared.Path.TheVariants.{Fast}
 use Rattle.mk_history.specs.declared.RoundLog.{RoundLog}
-use Rattle.mk_column.specs.Logs.{LogReplays}
+use Rattle.mk_model.specs.Logs.{LogReplays}
 use Rattle.mk_history.specs.Histories.{History, log_of, journal_of}
 use Rattle.mk_history.specs.Matching.{Turn, IsMatched}
 use Rattle.mk_history.specs.Shape.{HasShape, begins_in}
 use Rattle.mk_history.specs.Legality.{IsLegal}
+use Rattle.mk_history.specs.Naming.{IsNamed}
+use Rattle.mk_history.specs.Safety.{IsSafe}
 use Rattle.mk_history.specs.Wholes.{first_state, setting_of, column_of, cell_of}
-use Rattle.mk_history.specs.Learning.{learned, commits}
+use Rattle.mk_history.specs.Learning.{Learnt, learned, commits as commits_of}
 use Rattle.mk_history.specs.Learning.Place.{InLog}
 
-abbrev id : TxnId
+abbrev pub id : TxnId
 id = record { client = 1; seq = 1 }
 
-abbrev ts : StampType
+abbrev pub ts : StampType
 ts = record { time = 10; client = 1 }
 
-abbrev check_at : ℕ → Step
+abbrev pub check_at : ℕ → Step
 check_at r = Key (record { replica = r; key = 0; act = CheckWrite ts }) Okay
 
 abbrev commit_at : ℕ → Step
 commit_at r = Key (record { replica = r; key = 0; act = CommitWrite ts (Number 5) }) Done
 
-abbrev log : List Step
+abbrev pub log : List Step
 log =
     Begin 1 0 ∷ (Stamp id 10 (record { key = 0; value = Number 5 } ∷ []) ∷ (Validate id
     ∷ (Take 1 ∷ (check_at 0 ∷ (Take 4 ∷ (Take 2 ∷ (check_at 1 ∷ (Take 5 ∷ (Take 3 ∷ (check_at 2 ∷ (Take 6
     ∷ (Rule id ∷ (Take 7 ∷ (commit_at 0 ∷ (Take 8 ∷ (commit_at 1 ∷ (Take 9 ∷ (commit_at 2 ∷ []))))))))))))))))))
 
-abbrev checked : JournalEntry
+abbrev pub checked : JournalEntry
 checked = record { seat = 0; act = CheckWrite ts; answer = Okay }
 
-abbrev written : JournalEntry
+abbrev pub written : JournalEntry
 written = record { seat = 0; act = CommitWrite ts (Number 5); answer = Done }
 
-abbrev journal : List JournalEntry
+abbrev pub journal : List JournalEntry
 journal = checked ∷ (written ∷ [])
 
 abbrev exchanged : List JournalEntry
 exchanged = written ∷ (checked ∷ [])
 
 -- the round, with this journal at the first replica
-abbrev round_with : List JournalEntry → RoundLog
+abbrev pub round_with : List JournalEntry → RoundLog
 round_with first = record { logs = log ∷ []; journals = (first ∷ []) ∷ ((journal ∷ []) ∷ ((journal ∷ []) ∷ [])); globals = [] }
 
 -- the client is called a, and the key x
-abbrev run_with : List JournalEntry → History
+abbrev pub run_with : List JournalEntry → History
 run_with first =
     record {
       version = 1;
@@ -70,7 +78,7 @@ run_with first =
       rounds = round_with first ∷ [];
     }
 
-abbrev run : History
+abbrev pub run : History
 run = run_with journal
 
 not_below_one : (n : ℕ) → suc n < 1 → ⊥
@@ -146,6 +154,29 @@ pub all_learned : learned run
     ∷ (record { place = InLog 1 0 18; id = id; outcome = Commit; path = Fast } ∷ [])))
 all_learned = refl
 
-pub one_commit : commits run
+pub one_commit : commits_of run
     ≡ record { id = id; stamp = ts; reads = []; writes = record { key = 0; value = Number 5 } ∷ [] } ∷ []
 one_commit = refl
+
+-- ---- the run is safe
+
+all_commit : Each (λ (l : Learnt). l.outcome ≡ Commit) (learned run)
+all_commit = (refl, (refl, (refl, (refl, tt))))
+
+commits : (l : Learnt) → Among l (learned run) → l.outcome ≡ Commit
+commits l a = Each-among (λ (l : Learnt). l.outcome ≡ Commit) l (learned run) all_commit a
+
+none_reads : Each (λ (txn : Transaction). txn.reads ≡ []) (commits_of run)
+none_reads = (refl, tt)
+
+no_read : (txn : Transaction) → Among txn (commits_of run) → (item : ReadItem) → Among item txn.reads → ⊥
+no_read txn a item b = subst (Among item) (Each-among (λ (txn : Transaction). txn.reads ≡ []) txn (commits_of run) none_reads a) b
+
+pub safe : IsSafe run
+safe =
+    record {
+      agree = λ a b p q e. ap (λ (o : Outcome). agrees o b.outcome) (commits a p) ∙ ap (agrees Commit) (commits b q);
+      explained = record { versions = λ txn a item b. absurd (no_read txn a item b); values = λ txn a item b. absurd (no_read txn a item b) };
+      named = λ l a. subst (IsNamed run l.id) (sym (commits l a)) tt;
+      marks = λ base id a seq covered. absurd a;
+    }

@@ -3,19 +3,19 @@ use Rattle.std.proofs.Common.{◌≡◌, List, [], ◌∷◌, refl}
 use Rattle.mk_txn.specs.declared.Value.TheVariants.{Number}
 use Rattle.mk_txn.specs.declared.Cause.TheVariants.{Epoch as ByEpoch}
 use Rattle.mk_txn.specs.declared.Outcome.TheVariants.{Abort}
-use Rattle.mk_cell.specs.declared.Act.TheVariants.{CheckWrite}
-use Rattle.mk_cell.specs.declared.Answer.TheVariants.{Okay}
-use Rattle.mk_global.specs.declared.GlobalEntry.{GlobalEntry}
-use Rattle.mk_global.specs.declared.GlobalLine.TheVariants.{Ask, Promise as PromiseLine, Merge, Adopt, Enter}
-use Rattle.mk_global.specs.declared.GlobalAnswer.TheVariants.{Ok as GlobalOk, Counts, Entered}
-use Rattle.mk_column.specs.declared.Step.{Step}
-use Rattle.mk_column.specs.declared.Step.TheVariants.{Begin, Stamp, Validate, Take, Key}
+use Rattle.mk_words.specs.declared.Act.TheVariants.{CheckWrite}
+use Rattle.mk_words.specs.declared.Answer.TheVariants.{Okay}
+use Rattle.mk_words.specs.declared.GlobalEntry.{GlobalEntry}
+use Rattle.mk_words.specs.declared.GlobalLine.TheVariants.{Ask, Promise as PromiseLine, Merge, Adopt, Enter}
+use Rattle.mk_words.specs.declared.GlobalAnswer.TheVariants.{Ok as GlobalOk, Counts, Entered}
+use Rattle.mk_words.specs.declared.Step.{Step}
+use Rattle.mk_words.specs.declared.Step.TheVariants.{Begin, Stamp, Validate, Take, Key}
 use Rattle.mk_history.specs.declared.RoundLog.{RoundLog}
 use Rattle.mk_history.specs.declared.Path.TheVariants.{Epoch}
 use Rattle.mk_history.specs.declared.State.TheVariants.{Learned}
 use Rattle.mk_history.specs.Histories.{History}
 use Rattle.mk_history.specs.Wholes.{first_state}
-use Rattle.mk_history.proofs.RunTrials.{disabled, globals_in, given_answers, cells_in, journaled, states}
+use Rattle.mk_history.proofs.RunTrials.{disabled, unfinished, turns_journaled, turns_logged, globals_in, given_answers, cells_in, journaled, states}
 
 abbrev log_1_0 : List Step
 log_1_0 =
@@ -32,7 +32,7 @@ globals_1 = record { line = Ask 1; answer = GlobalOk } ∷ (record { line = Prom
 abbrev round_1 : RoundLog
 round_1 = record { logs = log_1_0 ∷ []; journals = ([] ∷ []) ∷ (((record { seat = 0; act = CheckWrite (record { time = 10; client = 1 }); answer = Okay } ∷ []) ∷ []) ∷ (([] ∷ []) ∷ [])); globals = globals_1 }
 
-abbrev run : History
+abbrev pub run : History
 run =
     record {
       version = 1;
@@ -46,6 +46,12 @@ run =
 
 pub each_enabled : disabled run ≡ []
 each_enabled = refl
+
+pub all_finished : unfinished run ≡ []
+all_finished = refl
+
+pub acts_agree : turns_journaled run ≡ turns_logged run
+acts_agree = refl
 
 pub globals_answer : globals_in run (first_state run) run.rounds ≡ given_answers run
 globals_answer = refl

@@ -2,19 +2,19 @@
 use Rattle.std.proofs.Common.{◌≡◌, List, [], ◌∷◌, refl}
 use Rattle.mk_txn.specs.declared.Value.TheVariants.{Number}
 use Rattle.mk_txn.specs.declared.Outcome.TheVariants.{Commit}
-use Rattle.mk_cell.specs.declared.Act.TheVariants.{Get, CheckRead, CheckWrite, CommitRead, CommitWrite}
-use Rattle.mk_cell.specs.declared.Answer.TheVariants.{Version, Okay, Done}
-use Rattle.mk_global.specs.declared.GlobalEntry.{GlobalEntry}
-use Rattle.mk_global.specs.declared.GlobalLine.TheVariants.{Wipe, Ask, Promise as PromiseLine, Merge, Adopt, Enter}
-use Rattle.mk_global.specs.declared.GlobalAnswer.TheVariants.{Ok as GlobalOk, Counts, Entered, Lacking, Old}
-use Rattle.mk_column.specs.declared.Step.{Step}
-use Rattle.mk_column.specs.declared.Step.TheVariants.{Begin, Read as ReadStep, Stamp, Validate, Take, Key, Rule}
+use Rattle.mk_words.specs.declared.Act.TheVariants.{Get, CheckRead, CheckWrite, CommitRead, CommitWrite}
+use Rattle.mk_words.specs.declared.Answer.TheVariants.{Version, Okay, Done}
+use Rattle.mk_words.specs.declared.GlobalEntry.{GlobalEntry}
+use Rattle.mk_words.specs.declared.GlobalLine.TheVariants.{Wipe, Ask, Promise as PromiseLine, Merge, Adopt, Enter}
+use Rattle.mk_words.specs.declared.GlobalAnswer.TheVariants.{Ok as GlobalOk, Counts, Entered, Lacking, Old}
+use Rattle.mk_words.specs.declared.Step.{Step}
+use Rattle.mk_words.specs.declared.Step.TheVariants.{Begin, Read as ReadStep, Stamp, Validate, Take, Key, Rule}
 use Rattle.mk_history.specs.declared.RoundLog.{RoundLog}
 use Rattle.mk_history.specs.declared.Path.TheVariants.{Fast}
 use Rattle.mk_history.specs.declared.State.TheVariants.{Learned}
 use Rattle.mk_history.specs.Histories.{History}
 use Rattle.mk_history.specs.Wholes.{first_state}
-use Rattle.mk_history.proofs.RunTrials.{disabled, globals_in, given_answers, cells_in, journaled, states}
+use Rattle.mk_history.proofs.RunTrials.{disabled, unfinished, turns_journaled, turns_logged, globals_in, given_answers, cells_in, journaled, states}
 
 abbrev log_1_0 : List Step
 log_1_0 =
@@ -74,7 +74,7 @@ globals_2 = []
 abbrev round_2 : RoundLog
 round_2 = record { logs = log_2_0 ∷ []; journals = ((record { seat = 0; act = CheckRead (record { time = 20; client = 1 }) (record { time = 10; client = 1 }); answer = Okay } ∷ (record { seat = 0; act = CommitRead (record { time = 20; client = 1 }); answer = Done } ∷ [])) ∷ []) ∷ (((record { seat = 0; act = CheckRead (record { time = 20; client = 1 }) (record { time = 10; client = 1 }); answer = Okay } ∷ (record { seat = 0; act = CommitRead (record { time = 20; client = 1 }); answer = Done } ∷ [])) ∷ []) ∷ (((record { seat = 0; act = Get; answer = (Version (record { time = 10; client = 1 }) (Number 5)) } ∷ (record { seat = 0; act = CheckRead (record { time = 20; client = 1 }) (record { time = 10; client = 1 }); answer = Okay } ∷ (record { seat = 0; act = CommitRead (record { time = 20; client = 1 }); answer = Done } ∷ []))) ∷ []) ∷ [])); globals = globals_2 }
 
-abbrev run : History
+abbrev pub run : History
 run =
     record {
       version = 1;
@@ -88,6 +88,12 @@ run =
 
 pub each_enabled : disabled run ≡ []
 each_enabled = refl
+
+pub all_finished : unfinished run ≡ []
+all_finished = refl
+
+pub acts_agree : turns_journaled run ≡ turns_logged run
+acts_agree = refl
 
 pub globals_answer : globals_in run (first_state run) run.rounds ≡ given_answers run
 globals_answer = refl

@@ -1,7 +1,7 @@
 -- A run, as contracts see it.
 use Rattle.std.specs.Prelude.{ℕ, ◌+◌, ◌==◌, List, [], ◌∷◌, slice_index_or, if◌then◌else◌}
-use Rattle.mk_cell.specs.declared.JournalEntry.{JournalEntry}
-use Rattle.mk_column.specs.declared.Step.{Step}
+use Rattle.mk_words.specs.declared.JournalEntry.{JournalEntry}
+use Rattle.mk_words.specs.declared.Step.{Step}
 use Rattle.mk_history.specs.declared.RoundLog.{RoundLog}
 
 -- names are texts, as lists of bytes; clients are numbered from 1, and keys, columns and replicas from 0

@@ -6,19 +6,19 @@ use Rattle.mk_txn.specs.declared.TxnId.{TxnId}
 use Rattle.mk_txn.specs.declared.Outcome.{Outcome}
 use Rattle.mk_txn.specs.Outcomes.{is_commit}
 use Rattle.mk_txn.specs.Transactions.{Transaction, same_id}
-use Rattle.mk_merge.specs.Bases.{in_stamp_order, taught_by}
-use Rattle.mk_global.specs.declared.GlobalEntry.{GlobalEntry}
-use Rattle.mk_global.specs.declared.GlobalLine.{GlobalLine}
-use Rattle.mk_global.specs.declared.GlobalLine.TheVariants.{Enter}
-use Rattle.mk_global.specs.declared.GlobalAnswer.{GlobalAnswer}
-use Rattle.mk_column.specs.declared.Step.{Step}
-use Rattle.mk_column.specs.ColumnState.{ColumnState, AttemptState, Setting, Learning, Way}
-use Rattle.mk_column.specs.ColumnState.Way.{ByVotes, ByAccepts, ByPick, ByMoved, ByTelling, ByFinishing}
-use Rattle.mk_column.specs.Learnings.{learned_in_step}
-use Rattle.mk_column.specs.Steps.{column_after}
-use Rattle.mk_epoch.specs.EpochState.{made_for}
-use Rattle.mk_epoch.specs.GlobalAnswers.{is_accepted}
-use Rattle.mk_epoch.specs.GlobalSteps.{base_or_empty}
+use Rattle.mk_words.specs.Bases.{in_stamp_order, taught_by}
+use Rattle.mk_words.specs.declared.GlobalEntry.{GlobalEntry}
+use Rattle.mk_words.specs.declared.GlobalLine.{GlobalLine}
+use Rattle.mk_words.specs.declared.GlobalLine.TheVariants.{Enter}
+use Rattle.mk_words.specs.declared.GlobalAnswer.{GlobalAnswer}
+use Rattle.mk_words.specs.declared.Step.{Step}
+use Rattle.mk_model.specs.ColumnState.{ColumnState, AttemptState, Setting, Learning, Way}
+use Rattle.mk_model.specs.ColumnState.Way.{ByVotes, ByAccepts, ByPick, ByMoved, ByTelling, ByFinishing}
+use Rattle.mk_model.specs.Learnings.{learned_in_step}
+use Rattle.mk_model.specs.Steps.{column_after}
+use Rattle.mk_model.specs.EpochState.{made_for}
+use Rattle.mk_model.specs.GlobalAnswers.{is_accepted}
+use Rattle.mk_model.specs.GlobalSteps.{base_or_empty}
 use Rattle.mk_history.specs.declared.Path.{Path}
 use Rattle.mk_history.specs.declared.Path.TheVariants.{Fast, Slow, Takeover, Epoch, Moved}
 use Rattle.mk_history.specs.declared.RoundLog.{RoundLog}

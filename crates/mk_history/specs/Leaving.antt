@@ -6,11 +6,11 @@ use Rattle.mk_txn.specs.declared.TxnId.{TxnId}
 use Rattle.mk_txn.specs.Transactions.{same_id}
 use Rattle.mk_quorum.specs.Sizes.{members}
 use Rattle.mk_quorum.specs.Slots.{count_slots}
-use Rattle.mk_coord.specs.Rulings.{CoordState, any_vote, count_accepts}
-use Rattle.mk_takeover.specs.declared.Pick.{Pick}
-use Rattle.mk_takeover.specs.declared.Pick.TheVariants.{Unclear as PickUnclear}
-use Rattle.mk_takeover.specs.Picks.{TakeoverState, is_promise, pick}
-use Rattle.mk_column.specs.ColumnState.{ColumnState, AttemptState, TakeoverOf}
+use Rattle.mk_words.specs.Rulings.{CoordState, any_vote, count_accepts}
+use Rattle.mk_words.specs.declared.Pick.{Pick}
+use Rattle.mk_words.specs.declared.Pick.TheVariants.{Unclear as PickUnclear}
+use Rattle.mk_words.specs.Picks.{TakeoverState, is_promise, pick}
+use Rattle.mk_model.specs.ColumnState.{ColumnState, AttemptState, TakeoverOf}
 use Rattle.mk_history.specs.declared.Left.{Left}
 use Rattle.mk_history.specs.declared.Left.TheVariants.{Unread, Short, Unaccepted, Stopped, Unclear}
 

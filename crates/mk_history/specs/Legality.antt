@@ -1,10 +1,10 @@
 -- When a run could have happened.
 use Rattle.std.specs.Prelude.{ℕ, ◌<◌, List, [], ◌∷◌, length}
-use Rattle.mk_cell.specs.Journals.{EachAnswered}
+use Rattle.mk_words.specs.Journals.{EachAnswered}
 use Rattle.mk_quorum.specs.Sizes.{members}
-use Rattle.mk_global.specs.declared.GlobalEntry.{GlobalEntry}
-use Rattle.mk_column.specs.Logs.{LogReplays}
-use Rattle.mk_epoch.specs.GlobalSteps.{IsAnswer}
+use Rattle.mk_words.specs.declared.GlobalEntry.{GlobalEntry}
+use Rattle.mk_model.specs.Logs.{LogReplays}
+use Rattle.mk_model.specs.GlobalSteps.{IsAnswer}
 use Rattle.mk_history.specs.declared.RoundLog.{RoundLog}
 use Rattle.mk_history.specs.Histories.{History, log_of, journal_of}
 use Rattle.mk_history.specs.Matching.{IsMatched}

@@ -11,11 +11,11 @@ use Rattle.mk_txn.specs.declared.Outcome.TheVariants.{Commit, Abort}
 use Rattle.mk_txn.specs.Clashes.{writes_key}
 use Rattle.mk_txn.specs.LatestWrites.{reads_key}
 use Rattle.mk_txn.specs.Transactions.{Transaction}
-use Rattle.mk_cell.specs.declared.Answer.TheVariants.{Refused}
-use Rattle.mk_cell.specs.declared.JournalEntry.{JournalEntry}
-use Rattle.mk_cell.specs.Acts.{is_check_of}
-use Rattle.mk_column.specs.ColumnState.{ColumnState, AttemptState, TakeoverOf}
-use Rattle.mk_epoch.specs.EpochState.{made_for}
+use Rattle.mk_words.specs.declared.Answer.TheVariants.{Refused}
+use Rattle.mk_words.specs.declared.JournalEntry.{JournalEntry}
+use Rattle.mk_words.specs.Acts.{is_check_of}
+use Rattle.mk_model.specs.ColumnState.{ColumnState, AttemptState, TakeoverOf}
+use Rattle.mk_model.specs.EpochState.{made_for}
 use Rattle.mk_history.specs.declared.RoundLog.{RoundLog}
 use Rattle.mk_history.specs.Histories.{History, journal_of}
 use Rattle.mk_history.specs.Wholes.{last_state}

@@ -4,9 +4,9 @@ use Rattle.mk_lists.specs.Among.{Among}
 use Rattle.mk_txn.specs.declared.TxnId.{TxnId}
 use Rattle.mk_txn.specs.MarkMaps.{covers}
 use Rattle.mk_txn.specs.Outcomes.{agrees}
-use Rattle.mk_replay.specs.Explained.{IsExplained}
-use Rattle.mk_column.specs.ColumnState.{ColumnState, AttemptState, is_settled}
-use Rattle.mk_epoch.specs.EpochState.{MadeBase}
+use Rattle.mk_model.specs.Explained.{IsExplained}
+use Rattle.mk_model.specs.ColumnState.{ColumnState, AttemptState, is_settled}
+use Rattle.mk_model.specs.EpochState.{MadeBase}
 use Rattle.mk_history.specs.Histories.{History}
 use Rattle.mk_history.specs.Shape.{HasShape}
 use Rattle.mk_history.specs.Wholes.{last_state}

@@ -2,23 +2,23 @@
 use Rattle.std.specs.Prelude.{◌≡◌, ◌⊎◌, ℕ, ◌+◌, ◌^◌, ◌≤◌, Bool, true, false, ◌&&◌, ◌==◌, nat_lt, nat_le, max, List, [], ◌∷◌, length, map, sum, count_by}
 use Rattle.std.specs.List.{list_all}
 use Rattle.mk_lists.specs.Among.{Each, AllDistinct}
-use Rattle.mk_text.specs.Words.{is_name}
+use Rattle.mk_spelling.specs.Words.{is_name}
 use Rattle.mk_txn.specs.declared.Stamp.{Stamp}
 use Rattle.mk_txn.specs.declared.TxnId.{TxnId}
 use Rattle.mk_txn.specs.declared.Value.{Value}
 use Rattle.mk_txn.specs.declared.Value.TheVariants.{Number, Absent}
 use Rattle.mk_txn.specs.declared.WriteItem.{WriteItem}
-use Rattle.mk_cell.specs.declared.Act.{Act}
-use Rattle.mk_cell.specs.declared.Act.TheVariants.{Get, CheckRead, CheckWrite, CommitRead, CommitWrite, ReleaseRead, ReleaseWrite}
-use Rattle.mk_cell.specs.declared.Answer.{Answer}
-use Rattle.mk_cell.specs.declared.Answer.TheVariants.{Version, Okay, Refused, Done}
-use Rattle.mk_cell.specs.declared.JournalEntry.{JournalEntry}
-use Rattle.mk_cell.specs.Acts.{answer_fits}
+use Rattle.mk_words.specs.declared.Act.{Act}
+use Rattle.mk_words.specs.declared.Act.TheVariants.{Get, CheckRead, CheckWrite, CommitRead, CommitWrite, ReleaseRead, ReleaseWrite}
+use Rattle.mk_words.specs.declared.Answer.{Answer}
+use Rattle.mk_words.specs.declared.Answer.TheVariants.{Version, Okay, Refused, Done}
+use Rattle.mk_words.specs.declared.JournalEntry.{JournalEntry}
+use Rattle.mk_words.specs.Acts.{answer_fits}
 use Rattle.mk_quorum.specs.Sizes.{members}
-use Rattle.mk_global.specs.declared.GlobalEntry.{GlobalEntry}
-use Rattle.mk_global.specs.Lines.{line_fits, can_answer}
-use Rattle.mk_column.specs.declared.Step.{Step}
-use Rattle.mk_column.specs.declared.Step.TheVariants.{Begin, Unread, Read, Stamp as StampStep, Validate, Take, Key, Rule, Again, Takeover, Pick, Stop}
+use Rattle.mk_words.specs.declared.GlobalEntry.{GlobalEntry}
+use Rattle.mk_words.specs.Lines.{line_fits, can_answer}
+use Rattle.mk_words.specs.declared.Step.{Step}
+use Rattle.mk_words.specs.declared.Step.TheVariants.{Begin, Unread, Read, Stamp as StampStep, Validate, Take, Key, Rule, Again, Takeover, Pick, Stop}
 use Rattle.mk_history.specs.declared.RoundLog.{RoundLog}
 use Rattle.mk_history.specs.Histories.{History}
 

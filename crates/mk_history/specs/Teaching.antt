@@ -7,13 +7,13 @@ use Rattle.mk_txn.specs.declared.Cause.TheVariants.{Epoch as ByEpoch}
 use Rattle.mk_txn.specs.declared.Outcome.{Outcome}
 use Rattle.mk_txn.specs.declared.Outcome.TheVariants.{Abort}
 use Rattle.mk_txn.specs.Outcomes.{agrees}
-use Rattle.mk_merge.specs.Bases.{BaseState, fate_in}
-use Rattle.mk_global.specs.declared.GlobalEntry.{GlobalEntry}
-use Rattle.mk_global.specs.declared.GlobalLine.{GlobalLine}
-use Rattle.mk_global.specs.declared.GlobalLine.TheVariants.{Enter}
-use Rattle.mk_column.specs.ColumnState.{AttemptState}
-use Rattle.mk_epoch.specs.EpochState.{base_for}
-use Rattle.mk_epoch.specs.GlobalAnswers.{is_accepted}
+use Rattle.mk_words.specs.Bases.{BaseState, fate_in}
+use Rattle.mk_words.specs.declared.GlobalEntry.{GlobalEntry}
+use Rattle.mk_words.specs.declared.GlobalLine.{GlobalLine}
+use Rattle.mk_words.specs.declared.GlobalLine.TheVariants.{Enter}
+use Rattle.mk_model.specs.ColumnState.{AttemptState}
+use Rattle.mk_model.specs.EpochState.{base_for}
+use Rattle.mk_model.specs.GlobalAnswers.{is_accepted}
 use Rattle.mk_history.specs.declared.RoundLog.{RoundLog}
 use Rattle.mk_history.specs.Histories.{History}
 use Rattle.mk_history.specs.Wholes.{last_state}

@@ -1,20 +1,20 @@
 -- The state of the whole: all columns, all cells and the epoch machine, and where a round leads.
 use Rattle.std.specs.Prelude.{ℕ, ◌+◌, List, [], ◌∷◌, flat_map, fold, length, map, replicate, slice_index_or, slice_set, if◌then◌else◌}
 use Rattle.mk_txn.specs.MarkMaps.{MarkMap, joined_marks}
-use Rattle.mk_cell.specs.Cells.{CellState, first_cell}
-use Rattle.mk_cell.specs.Journals.{cell_through}
-use Rattle.mk_record.specs.declared.Entry.{Entry}
+use Rattle.mk_words.specs.Cells.{CellState, first_cell}
+use Rattle.mk_words.specs.Journals.{cell_through}
+use Rattle.mk_words.specs.declared.Entry.{Entry}
 use Rattle.mk_quorum.specs.Sizes.{members}
-use Rattle.mk_merge.specs.Bases.{BaseState, empty_base}
-use Rattle.mk_merge.specs.Rebuilding.{rebuilt}
-use Rattle.mk_global.specs.declared.GlobalEntry.{GlobalEntry}
-use Rattle.mk_global.specs.declared.GlobalLine.{GlobalLine}
-use Rattle.mk_global.specs.declared.GlobalLine.TheVariants.{Wipe, Ask, Promise, Merge, Adopt, Enter}
-use Rattle.mk_column.specs.ColumnState.{ColumnState, Setting, new_column, numbers_from, entries_at, marks_at}
-use Rattle.mk_column.specs.Logs.{column_through, reading_ended, replica_reset}
-use Rattle.mk_epoch.specs.EpochState.{EpochState, first_epochs, views_of, made_for}
-use Rattle.mk_epoch.specs.GlobalAnswers.{is_accepted}
-use Rattle.mk_epoch.specs.GlobalSteps.{HandedIn, nothing_handed, global_outcome, base_or_empty}
+use Rattle.mk_words.specs.Bases.{BaseState, empty_base}
+use Rattle.mk_words.specs.Rebuilding.{rebuilt}
+use Rattle.mk_words.specs.declared.GlobalEntry.{GlobalEntry}
+use Rattle.mk_words.specs.declared.GlobalLine.{GlobalLine}
+use Rattle.mk_words.specs.declared.GlobalLine.TheVariants.{Wipe, Ask, Promise, Merge, Adopt, Enter}
+use Rattle.mk_model.specs.ColumnState.{ColumnState, Setting, new_column, numbers_from, entries_at, marks_at}
+use Rattle.mk_model.specs.Logs.{column_through, reading_ended, replica_reset}
+use Rattle.mk_model.specs.EpochState.{EpochState, first_epochs, views_of, made_for}
+use Rattle.mk_model.specs.GlobalAnswers.{is_accepted}
+use Rattle.mk_model.specs.GlobalSteps.{HandedIn, nothing_handed, global_outcome, base_or_empty}
 use Rattle.mk_history.specs.declared.RoundLog.{RoundLog}
 use Rattle.mk_history.specs.Histories.{History, clients_of, log_of, journal_of}
 

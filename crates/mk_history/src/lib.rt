@@ -1,59 +1,129 @@
 //! The types of a run: its rounds with their logs, journals and global lines, and how attempts end.
 #![tactic(auto)]
 
-use mk_cell::JournalEntry;
-use mk_column::Step;
-pub use mk_global::{GlobalAnswer, GlobalEntry, GlobalLine};
-use mk_txn::Outcome;
+use mk_txn::{NoMemory, Outcome};
+use mk_words::{JournalEntry, Step};
+pub use mk_words::{GlobalAnswer, GlobalEntry, GlobalLine};
 use std::marker::Model;
 
 /// The log of each column in a round.
-#[derive(Drop, Debug)]
+#[derive(Drop)]
 pub struct Logs {
     columns: Vec<Vec<Step>>,
 }
 
 impl Model for Logs {
     ghost use Rattle.std.specs.Prelude.{List, map};
-    ghost use Rattle.mk_column.specs.declared.Step.{Step};
+    ghost use Rattle.mk_words.specs.declared.Step.{Step};
 
     ghost Value = { List (List Step) };
 
     ghost view = { λ logs. map (λ column. column.items) logs.columns.items };
 }
 
+impl Logs {
+    ghost use Rattle.std.specs.Prelude.{◌≡◌, map};
+
+    pub fn of(columns: Vec<Vec<Step>>) -> Logs
+        ensures { result ≡ map (λ column. column.items) columns.items }
+    {
+        Logs { columns }
+    }
+
+    /// The logs, by column.
+    pub fn as_slice(&self) -> &[Vec<Step>]
+        ensures { map (λ column. column.items) result.now ≡ self.now }
+    {
+        self.columns.as_slice()
+    }
+
+    /// Gives the lists back, which takes no memory.
+    pub fn into_vec(self) -> Vec<Vec<Step>>
+        ensures { map (λ column. column.items) result.items ≡ self }
+    {
+        self.columns
+    }
+}
+
 /// The journal of each key of each replica in a round.
-#[derive(Drop, Debug)]
+#[derive(Drop)]
 pub struct Journals {
     replicas: Vec<Vec<Vec<JournalEntry>>>,
 }
 
 impl Model for Journals {
     ghost use Rattle.std.specs.Prelude.{List, map};
-    ghost use Rattle.mk_cell.specs.declared.JournalEntry.{JournalEntry};
+    ghost use Rattle.mk_words.specs.declared.JournalEntry.{JournalEntry};
 
     ghost Value = { List (List (List JournalEntry)) };
 
     ghost view = { λ journals. map (λ replica. map (λ key. key.items) replica.items) journals.replicas.items };
 }
 
+impl Journals {
+    ghost use Rattle.std.specs.Prelude.{◌≡◌, map};
+
+    pub fn of(replicas: Vec<Vec<Vec<JournalEntry>>>) -> Journals
+        ensures { result ≡ map (λ replica. map (λ key. key.items) replica.items) replicas.items }
+    {
+        Journals { replicas }
+    }
+
+    /// The journals, by replica and key.
+    pub fn as_slice(&self) -> &[Vec<Vec<JournalEntry>>]
+        ensures { map (λ replica. map (λ key. key.items) replica.items) result.now ≡ self.now }
+    {
+        self.replicas.as_slice()
+    }
+
+    /// Gives the lists back, which takes no memory.
+    pub fn into_vec(self) -> Vec<Vec<Vec<JournalEntry>>>
+        ensures { map (λ replica. map (λ key. key.items) replica.items) result.items ≡ self }
+    {
+        self.replicas
+    }
+}
+
 /// The global lines of a round with their answers.
-#[derive(Drop, Debug)]
+#[derive(Drop)]
 pub struct Globals {
     entries: Vec<GlobalEntry>,
 }
 
 impl Model for Globals {
     ghost use Rattle.std.specs.Prelude.{List};
-    ghost use Rattle.mk_global.specs.declared.GlobalEntry.{GlobalEntry};
+    ghost use Rattle.mk_words.specs.declared.GlobalEntry.{GlobalEntry};
 
     ghost Value = { List GlobalEntry };
 
     ghost view = { λ globals. globals.entries.items };
 }
 
+impl Globals {
+    ghost use Rattle.std.specs.Prelude.{◌≡◌};
+
+    pub fn of(entries: Vec<GlobalEntry>) -> Globals
+        ensures { result ≡ entries.items }
+    {
+        Globals { entries }
+    }
+
+    pub fn as_slice(&self) -> &[GlobalEntry]
+        ensures { result.now ≡ self.now }
+    {
+        self.entries.as_slice()
+    }
+
+    /// Gives the list back, which takes no memory.
+    pub fn into_vec(self) -> Vec<GlobalEntry>
+        ensures { result.items ≡ self }
+    {
+        self.entries
+    }
+}
+
 /// What was done in one round.
-#[derive(Drop, Debug)]
+#[derive(Drop)]
 pub struct RoundLog {
     pub logs: Logs,
     pub journals: Journals,
@@ -61,7 +131,7 @@ pub struct RoundLog {
 }
 
 /// The rounds of a run, in order.
-#[derive(Drop, Debug)]
+#[derive(Drop)]
 pub struct Rounds {
     rounds: Vec<RoundLog>,
 }
@@ -75,8 +145,31 @@ impl Model for Rounds {
     ghost view = { λ rounds. rounds.rounds.items };
 }
 
+impl Rounds {
+    ghost use Rattle.std.specs.Prelude.{◌≡◌};
+
+    pub fn of(rounds: Vec<RoundLog>) -> Rounds
+        ensures { result ≡ rounds.items }
+    {
+        Rounds { rounds }
+    }
+
+    pub fn as_slice(&self) -> &[RoundLog]
+        ensures { result.now ≡ self.now }
+    {
+        self.rounds.as_slice()
+    }
+
+    /// Gives the list back, which takes no memory.
+    pub fn into_vec(self) -> Vec<RoundLog>
+        ensures { result.items ≡ self }
+    {
+        self.rounds
+    }
+}
+
 /// The column of each client, in order of number.
-#[derive(Drop, Debug)]
+#[derive(Drop)]
 pub struct ColumnNumbers {
     numbers: Vec<u32>,
 }
@@ -89,8 +182,39 @@ impl Model for ColumnNumbers {
     ghost view = { λ numbers. numbers.numbers.items };
 }
 
+impl ColumnNumbers {
+    ghost use Rattle.std.specs.Prelude.{◌≡◌, IfOk};
+
+    pub fn of(numbers: Vec<u32>) -> ColumnNumbers
+        ensures { result ≡ numbers.items }
+    {
+        ColumnNumbers { numbers }
+    }
+
+    pub fn as_slice(&self) -> &[u32]
+        ensures { result.now ≡ self.now }
+    {
+        self.numbers.as_slice()
+    }
+
+    /// Gives the list back, which takes no memory.
+    pub fn into_vec(self) -> Vec<u32>
+        ensures { result.items ≡ self }
+    {
+        self.numbers
+    }
+
+    pub fn copy(&self) -> Result<ColumnNumbers, NoMemory>
+        ensures { IfOk result (λ numbers. numbers ≡ self.now) }
+    {
+        Ok(ColumnNumbers {
+            numbers: self.numbers.clone()?,
+        })
+    }
+}
+
 /// How an outcome was learned first.
-#[derive(Clone, Copy, Debug, PartialEq, Eq)]
+#[derive(Clone, Copy, PartialEq, Eq)]
 pub enum Path {
     /// By equal votes of a fast quorum.
     Fast,
@@ -105,7 +229,7 @@ pub enum Path {
 }
 
 /// How an attempt stands that nobody learned.
-#[derive(Clone, Copy, Debug, PartialEq, Eq)]
+#[derive(Clone, Copy, PartialEq, Eq)]
 pub enum Left {
     /// It found no replica to read at.
     Unread,
@@ -120,7 +244,7 @@ pub enum Left {
 }
 
 /// How an attempt ended.
-#[derive(Clone, Copy, Debug, PartialEq, Eq)]
+#[derive(Clone, Copy, PartialEq, Eq)]
 pub enum State {
     Learned { outcome: Outcome, path: Path },
     Left(Left),

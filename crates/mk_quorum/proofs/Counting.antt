@@ -4,11 +4,6 @@ use Rattle.std.proofs.lemmas.List.Recursion.{is_count_by}
 use Rattle.mk_quorum.specs.Counts.{count_below}
 use Rattle.mk_quorum.specs.ReplicaSets.{has_replica, number_of}
 
--- no count is above the number of numbers
-pub count_below-at_most : (n : ℕ) (p : ℕ → Bool) → count_below n p ≤ n
-count_below-at_most zero p = omega arith
-count_below-at_most (suc n) p = grind (arith, count_below-at_most n p)
-
 -- equal tests have equal counts
 pub count_below-same : (n : ℕ) (p q : ℕ → Bool) → ((r : ℕ) → r < n → p r ≡ q r) → count_below n p ≡ count_below n q
 count_below-same zero p q h = refl
@@ -19,15 +14,8 @@ pub count_below-weaker : (n : ℕ) (p q : ℕ → Bool) → ((r : ℕ) → r < n
 count_below-weaker zero p q h = omega arith
 count_below-weaker (suc n) p q h = grind (arith, count_below-weaker n p q (λ r lt. h r (omega (arith, lt))), h n (omega arith))
 
--- numbers that fail the test do not count
-pub count_below-beyond : (n more : ℕ) (p : ℕ → Bool) → ((r : ℕ) → n ≤ r → p r ≡ false) → count_below (more + n) p ≡ count_below n p
-count_below-beyond n zero p h = ap (λ k. count_below k p) (omega arith)
-count_below-beyond n (suc more) p h =
-    let next : suc more + n ≡ suc (more + n) = omega arith in
-    let none : p (more + n) ≡ false = h (more + n) (omega arith) in
-    ap (λ k. count_below k p) next ∙ ap (λ b. (if b then 1 else 0) + count_below (more + n) p) none ∙ zero-add (count_below (more + n) p) ∙ count_below-beyond n more p h
-
-count_below-first : (n : ℕ) (p : ℕ → Bool) → count_below (suc n) p ≡ (if p 0 then 1 else 0) + count_below n (λ r. p (suc r))
+-- the first number apart from the others
+pub count_below-first : (n : ℕ) (p : ℕ → Bool) → count_below (suc n) p ≡ (if p 0 then 1 else 0) + count_below n (λ r. p (suc r))
 count_below-first zero p = refl
 count_below-first (suc n) p = grind (arith, count_below-first n p)
 

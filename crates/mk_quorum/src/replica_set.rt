@@ -4,7 +4,7 @@ ghost use Rattle.std.specs.Prelude.{◌≡◌, ◌<◌, ◌==◌, count_by};
 use std::marker::Model;
 
 /// A set of replicas, by their numbers 0 to 6.
-#[derive(Clone, Copy, Debug, PartialEq, Eq)]
+#[derive(Clone, Copy)]
 pub struct ReplicaSet {
     present: [bool; 7],
 }

@@ -5,7 +5,7 @@ ghost use Rattle.mk_quorum.specs.Sizes.{members, majority_of, fast_of, hint_of, 
 use std::marker::Model;
 
 /// The number f of faults that a store survives, 1 to 3. It has 2f + 1 replicas.
-#[derive(Clone, Copy, Debug, PartialEq, Eq)]
+#[derive(Clone, Copy)]
 pub struct Size {
     faults: u32,
 }

@@ -1,9 +1,9 @@
 //! Numbers and names, and tests in their order.
 ghost use Rattle.std.specs.Prelude.{◌≡◌, IsTrue};
-ghost use Rattle.mk_text.specs.Words as spec;
-ghost use Rattle.mk_text.specs.Fields as tests;
+ghost use Rattle.mk_spelling.specs.Words as spec;
+ghost use Rattle.mk_spelling.specs.Fields as tests;
 
-use crate::fault::TextFault;
+use mk_spelling::TextFault;
 
 /// Passes where the test does, and else answers the fault.
 pub fn need(test: bool, fault: TextFault) -> Result<(), TextFault>

@@ -1,8 +1,8 @@
 //! Where a text is cut, and the words of a line.
 ghost use Rattle.std.specs.Prelude.{◌≡◌};
 ghost use Rattle.std.specs.List.{list_any};
-ghost use Rattle.mk_text.specs.Words as spec;
-ghost use Rattle.mk_text.specs.Fields.{one_of, two_of, three_of, four_of, five_of, two_and_more};
+ghost use Rattle.mk_spelling.specs.Words as spec;
+ghost use Rattle.mk_spelling.specs.Fields.{one_of, two_of, three_of, four_of, five_of, two_and_more};
 
 use memchr::memchr;
 
@@ -75,7 +75,7 @@ pub fn four(text: Option<&[u8]>) -> Option<(&[u8], &[u8], &[u8], &[u8])>
 }
 
 /// The words that are left, where they are just five.
-#[tactic(auto, using(crate::proofs::Cuts::five_of_cons))]
+#[tactic(auto, using(mk_spelling::proofs::Cuts::five_of_cons))]
 pub fn five(text: Option<&[u8]>) -> Option<(&[u8], &[u8], &[u8], &[u8], &[u8])>
     ensures { spec.seen_five result ≡ five_of (spec.words_behind text.entry) }
 {

@@ -1,5 +1,2 @@
-pub mod SettlingLaws
-pub mod KeptRows
 pub mod InOrder
 pub mod OneMoreSettled
-pub mod MarkIsGreatest

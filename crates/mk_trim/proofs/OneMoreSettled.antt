@@ -17,29 +17,26 @@ pub list_any-holds : (ids : List TxnId) (id : TxnId) → list_any (is_at (id_cmp
 list_any-holds [] id = refl
 list_any-holds (first ∷ rest) id = grind (arith, id_cmp-equal id first, list_any-holds rest id)
 
-pub holds-inserted : (old new : List TxnId) (id other : TxnId) → list_any (is_at (id_cmp other)) new ≡ (if is_at (id_cmp id) other then true else list_any (is_at (id_cmp other)) old) → holds new other ≡ (holds old other || same_id id other)
+pub holds-inserted : (old new : List TxnId) (id other : TxnId) →
+    list_any (is_at (id_cmp other)) new ≡ (if is_at (id_cmp id) other then true else list_any (is_at (id_cmp other)) old) →
+    holds new other ≡ (holds old other || same_id id other)
 holds-inserted old new id other e = grind (arith, list_any-holds old other, list_any-holds new other, id_cmp-equal id other, e)
 
-pub holds-removed : (old new : List TxnId) (id other : TxnId) → list_any (is_at (id_cmp other)) new ≡ (if is_at (id_cmp id) other then false else list_any (is_at (id_cmp other)) old) → holds new other ≡ (holds old other && not (other.client == id.client && other.seq == id.seq))
+pub holds-removed : (old new : List TxnId) (id other : TxnId) →
+    list_any (is_at (id_cmp other)) new ≡ (if is_at (id_cmp id) other then false else list_any (is_at (id_cmp other)) old) →
+    holds new other ≡ (holds old other && not (other.client == id.client && other.seq == id.seq))
 holds-removed old new id other e = grind (arith, nat_tests, list_any-holds old other, list_any-holds new other, id_cmp-equal id other, e)
 
 -- ---- one more attempt
 
--- what the mark covers already
-pub is_settled-covered : (marks : MarkMap) (above : List TxnId) (id other : TxnId) → id.seq ≤ mark_of marks id.client → is_settled (record { marks = marks; above = above }) other ≡ (is_settled (record { marks = marks; above = above }) other || same_id id other)
-is_settled-covered marks above id other le = by_same (same_id id other) refl
-  where
-    by_same : (b : Bool) → same_id id other ≡ b → (covers marks other || holds above other) ≡ ((covers marks other || holds above other) || b)
-    by_same true e =
-        let covered : covers marks other ≡ true = subst (λ id. covers marks id ≡ true) (same_id-tells id other e) (grind (arith, nat_tests, le)) in
-        grind (arith, covered)
-    by_same false e = grind arith
-
 -- one above the mark, with a gap
-pub is_settled-above : (marks : MarkMap) (old new : List TxnId) (id other : TxnId) → holds new other ≡ (holds old other || same_id id other) → is_settled (record { marks = marks; above = new }) other ≡ (is_settled (record { marks = marks; above = old }) other || same_id id other)
+pub is_settled-above : (marks : MarkMap) (old new : List TxnId) (id other : TxnId) → holds new other ≡ (holds old other || same_id id other) →
+    is_settled (record { marks = marks; above = new }) other ≡ (is_settled (record { marks = marks; above = old }) other || same_id id other)
 is_settled-above marks old new id other e = grind (arith, e)
 
-pub IsSettled-above : (marks : MarkMap) (old new : List TxnId) (id : TxnId) → ((other : TxnId) → holds new other ≡ (holds old other || same_id id other)) → mark_of marks id.client + 1 < id.seq → IsSettled (record { marks = marks; above = old }) → IsSettled (record { marks = marks; above = new })
+pub IsSettled-above : (marks : MarkMap) (old new : List TxnId) (id : TxnId) →
+    ((other : TxnId) → holds new other ≡ (holds old other || same_id id other)) → mark_of marks id.client + 1 < id.seq →
+    IsSettled (record { marks = marks; above = old }) → IsSettled (record { marks = marks; above = new })
 IsSettled-above marks old new id e gap h =
     record {
       ends = λ client fits.
@@ -59,7 +56,8 @@ IsSettled-above marks old new id e gap h =
         by_client false f = grind (arith, nat_tests, f)
 
 -- one up to the end is settled before, or the one that is settled now
-settled_up_to : (marks : MarkMap) (old : List TxnId) (id other : TxnId) (end : ℕ) → mark_of marks id.client + 1 ≡ id.seq → AllFollow old id end → other.client ≡ id.client → other.seq ≤ end → ((covers marks other || holds old other) || same_id id other) ≡ true
+settled_up_to : (marks : MarkMap) (old : List TxnId) (id other : TxnId) (end : ℕ) → mark_of marks id.client + 1 ≡ id.seq → AllFollow old id end →
+    other.client ≡ id.client → other.seq ≤ end → ((covers marks other || holds old other) || same_id id other) ≡ true
 settled_up_to marks old id other end next run client le = by_place (nat_lt other.seq id.seq) (other.seq == id.seq) refl refl
   where
     mark : mark_of marks other.client ≡ mark_of marks id.client
@@ -79,12 +77,15 @@ settled_up_to marks old id other end next run client le = by_place (nat_lt other
         grind (arith, held)
 
 -- the one that the mark waited for, with those that follow it without a gap
-pub is_settled-run : (marks : MarkMap) (old new : List TxnId) (id other : TxnId) (end : ℕ) → IsMarkMap marks → mark_of marks id.client + 1 ≡ id.seq → id.seq ≤ end → AllFollow old id end
+pub is_settled-run : (marks : MarkMap) (old new : List TxnId) (id other : TxnId) (end : ℕ) → IsMarkMap marks → mark_of marks id.client + 1 ≡ id.seq →
+    id.seq ≤ end → AllFollow old id end
     → holds new other ≡ (holds old other && not (follows id end other))
-    → is_settled (record { marks = raised id.client end marks; above = new }) other ≡ (is_settled (record { marks = marks; above = old }) other || same_id id other)
+    → is_settled (record { marks = raised id.client end marks; above = new }) other ≡
+    (is_settled (record { marks = marks; above = old }) other || same_id id other)
 is_settled-run marks old new id other end fits next le run held = by_client (other.client == id.client) refl
   where
-    by_end : other.client ≡ id.client → mark_of (raised id.client end marks) other.client ≡ end → (b : Bool) → nat_le other.seq end ≡ b → (covers (raised id.client end marks) other || holds new other) ≡ ((covers marks other || holds old other) || same_id id other)
+    by_end : other.client ≡ id.client → mark_of (raised id.client end marks) other.client ≡ end → (b : Bool) → nat_le other.seq end ≡ b →
+        (covers (raised id.client end marks) other || holds new other) ≡ ((covers marks other || holds old other) || same_id id other)
     by_end client mark true f =
         let up_to : other.seq ≤ end = grind (arith, nat_tests, f) in
         let now : covers (raised id.client end marks) other ≡ true = grind (arith, nat_tests, mark, up_to) in
@@ -97,15 +98,18 @@ is_settled-run marks old new id other end fits next le run held = by_client (oth
         let another : same_id id other ≡ false = grind (arith, nat_tests, beyond, le) in
         grind (arith, nat_tests, now, before, another, held, f)
 
-    by_client : (b : Bool) → (other.client == id.client) ≡ b → (covers (raised id.client end marks) other || holds new other) ≡ ((covers marks other || holds old other) || same_id id other)
+    by_client : (b : Bool) → (other.client == id.client) ≡ b →
+        (covers (raised id.client end marks) other || holds new other) ≡ ((covers marks other || holds old other) || same_id id other)
     by_client true e =
         let client : other.client ≡ id.client = grind (arith, nat_tests, e) in
         let risen : mark_of (raised id.client end marks) id.client ≡ max (mark_of marks id.client) end = mark_of-raised id.client end marks fits in
-        let mark : mark_of (raised id.client end marks) other.client ≡ end = subst (λ n. mark_of (raised id.client end marks) n ≡ end) (sym client) (omega (arith, risen, next, le)) in
+        let mark : mark_of (raised id.client end marks) other.client ≡ end =
+        subst (λ n. mark_of (raised id.client end marks) n ≡ end) (sym client) (omega (arith, risen, next, le)) in
         by_end client mark (nat_le other.seq end) refl
     by_client false e =
         let apart : other.client ≢ id.client = grind (arith, nat_tests, e) in
-        let mark : mark_of (raised id.client end marks) other.client ≡ mark_of marks other.client = mark_of-raised_other id.client end marks other.client apart in
+        let mark : mark_of (raised id.client end marks) other.client ≡ mark_of marks other.client =
+        mark_of-raised_other id.client end marks other.client apart in
         let same : covers (raised id.client end marks) other ≡ covers marks other = ap (λ m. nat_le other.seq m) mark in
         let another : same_id id other ≡ false = grind (arith, nat_tests, apart) in
         grind (arith, same, another, held, e)
@@ -116,11 +120,13 @@ pub IsSettled-run : (marks : MarkMap) (old new : List TxnId) (id : TxnId) (end :
     → IsSettled (record { marks = marks; above = old }) → IsSettled (record { marks = raised id.client end marks; above = new })
 IsSettled-run marks old new id end fits next le held ends h = record { ends = λ client room. by_client client room (client == id.client) refl }
   where
-    by_client : (client : ℕ) → mark_of (raised id.client end marks) client + 1 < 2 ^ 32 → (b : Bool) → (client == id.client) ≡ b → holds new (record { client = client; seq = mark_of (raised id.client end marks) client + 1 }) ≡ false
+    by_client : (client : ℕ) → mark_of (raised id.client end marks) client + 1 < 2 ^ 32 → (b : Bool) → (client == id.client) ≡ b →
+        holds new (record { client = client; seq = mark_of (raised id.client end marks) client + 1 }) ≡ false
     by_client client room true e =
         let same : client ≡ id.client = grind (arith, nat_tests, e) in
         let risen : mark_of (raised id.client end marks) id.client ≡ max (mark_of marks id.client) end = mark_of-raised id.client end marks fits in
-        let mark : mark_of (raised id.client end marks) client ≡ end = subst (λ n. mark_of (raised id.client end marks) n ≡ end) (sym same) (omega (arith, risen, next, le)) in
+        let mark : mark_of (raised id.client end marks) client ≡ end =
+        subst (λ n. mark_of (raised id.client end marks) n ≡ end) (sym same) (omega (arith, risen, next, le)) in
         let none : holds old (record { client = id.client; seq = end + 1 }) ≡ false = ends (subst (λ m. m + 1 < 2 ^ 32) mark room) in
         let here : holds old (record { client = client; seq = mark_of (raised id.client end marks) client + 1 }) ≡ false = subst (λ m. holds old (record { client = client; seq = m + 1 }) ≡ false) (sym mark) (subst (λ n. holds old (record { client = n; seq = end + 1 }) ≡ false) (sym same) none) in
         let at : TxnId = record { client = client; seq = mark_of (raised id.client end marks) client + 1 } in

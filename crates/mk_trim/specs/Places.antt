@@ -2,7 +2,7 @@
 use Rattle.std.specs.Prelude.{ℕ, suc, Bool, false, [], ◌∷◌, if◌then◌else◌}
 use Rattle.mk_txn.specs.declared.TxnId.{TxnId}
 use Rattle.mk_txn.specs.Transactions.{id_before, same_id}
-use Rattle.mk_trim.specs.KeptOutcomes.{Outcomes}
+use Rattle.mk_words.specs.KeptOutcomes.{Outcomes}
 
 -- how many at the front are before this attempt
 abbrev pub place_of : TxnId → Outcomes → ℕ

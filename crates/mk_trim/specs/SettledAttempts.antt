@@ -20,7 +20,8 @@ is_settled settled id = covers settled.marks id || holds settled.above id
 
 -- what the settled attempts keep: the one after a client's mark is not settled
 pub record IsSettled (settled : SettledAttempts) : Type 0 where
-  pub ends : (client : ℕ) → mark_of settled.marks client + 1 < 2 ^ 32 → holds settled.above (record { client = client; seq = mark_of settled.marks client + 1 }) ≡ false
+  pub ends : (client : ℕ) → mark_of settled.marks client + 1 < 2 ^ 32 →
+      holds settled.above (record { client = client; seq = mark_of settled.marks client + 1 }) ≡ false
 
 -- the greatest number up to which all attempts of a client are settled
 pub record IsMark (settled : SettledAttempts) (client mark : ℕ) : Type 0 where

@@ -7,14 +7,14 @@ use std::alloc::Global;
 use std::marker::Model;
 
 /// Outcomes in order of attempt, and the marks up to which outcomes are forgotten.
-#[derive(Drop, Debug)]
+#[derive(Drop)]
 pub struct Kept {
     outcomes: Vec<(TxnId, Outcome)>,
     marks: Marks,
 }
 
 impl Model for Kept {
-    ghost use Rattle.mk_trim.specs.KeptOutcomes.{KeptOutcomes, IsKept};
+    ghost use Rattle.mk_words.specs.KeptOutcomes.{KeptOutcomes, IsKept};
 
     ghost Value = { KeptOutcomes };
 
@@ -24,7 +24,7 @@ impl Model for Kept {
 }
 
 impl Kept {
-    ghost use Rattle.mk_trim.specs.KeptOutcomes.{IsKept, nothing_kept, with_outcome, covered_by, known_of, commit_count, abort_count};
+    ghost use Rattle.mk_words.specs.KeptOutcomes.{IsKept, nothing_kept, with_outcome, covered_by, known_of, commit_count, abort_count};
 
     /// Nothing kept, and all marks 0.
     pub fn new(alloc: Global) -> Kept

@@ -1,6 +1,6 @@
 //! Outcomes in order of attempt.
 ghost use Rattle.std.specs.Prelude.{◌≡◌, ◌<◌, ◌≤◌, length, IsTrue, OnOk, OnErr};
-ghost use Rattle.mk_trim.specs.KeptOutcomes.{AreInIdOrder, put_outcome, outcome_of, not_covered};
+ghost use Rattle.mk_words.specs.KeptOutcomes.{AreInIdOrder, put_outcome, outcome_of, not_covered};
 ghost use Rattle.mk_trim.specs.Places.{place_of, has_outcome};
 
 use mk_txn::{Marks, NoMemory, Outcome, TxnId, id_precedes, same_id};

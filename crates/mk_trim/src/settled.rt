@@ -10,7 +10,7 @@ use std::marker::Model;
 
 /// Attempts that are settled, in any order, and for each client the number up to which all are. Attempts are
 /// numbered from 1, so the number 0 counts as settled.
-#[derive(Drop, Debug)]
+#[derive(Drop)]
 pub struct Settled {
     marks: Marks,
     above: BTreeSet<TxnId>,

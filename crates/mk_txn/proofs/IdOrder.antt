@@ -1,5 +1,6 @@
 -- Laws of the order of attempts.
 use Rattle.std.proofs.Common.{◌≡◌, true, false, arith}
+use Rattle.std.proofs.lemmas.Bool.{false_from_ne_true}
 use Rattle.std.proofs.lemmas.Bool.Decides.{nat_tests}
 use Rattle.std.specs.Cmp.{IsTotalOrder}
 use Rattle.std.specs.Ordering.{is_lt, is_eq}
@@ -32,8 +33,19 @@ same_id-tells a b h =
     let s : a.seq ≡ b.seq = grind (arith, nat_tests) in
     λ i. record { client = c i; seq = s i }
 
+-- of two numbers the other is before, where one is not and they are not equal
+pub id_before-turned : (a b : TxnId) → id_before a b ≡ false → same_id a b ≡ false → id_before b a ≡ true
+id_before-turned a b h k = grind (arith, nat_tests)
+
+pub id_before-turned_other : (a b : TxnId) → id_before a b ≡ false → (a ≡ b → ⊥) → id_before b a ≡ true
+id_before-turned_other a b h ne = id_before-turned a b h (false_from_ne_true (same_id a b) (λ e. ne (same_id-tells a b e)))
+
 pub same_id-itself : (a : TxnId) → same_id a a ≡ true
 same_id-itself a = grind (arith, nat_tests)
+
+-- an attempt is not two
+pub same_id-apart : (a b c : TxnId) → same_id b c ≡ false → same_id a b ≡ true → same_id a c ≡ false
+same_id-apart a b c h k = grind (arith, nat_tests)
 
 -- ---- the comparison of the code
 

@@ -32,7 +32,8 @@ mark_of-raised client seq marks h = grind (arith, nat_tests, mark_of-placed clie
 pub mark_of-raised_other : (client seq : ℕ) (marks : MarkMap) (other : ℕ) → other ≢ client → mark_of (raised client seq marks) other ≡ mark_of marks other
 mark_of-raised_other client seq marks other h = grind (arith, nat_tests, mark_of-placed_other client seq marks other h)
 
-Each-placed : (low client seq : ℕ) (marks : MarkMap) → low < client → Each (λ later. low < later.0) marks → Each (λ later. low < later.0) (placed client seq marks)
+Each-placed : (low client seq : ℕ) (marks : MarkMap) → low < client → Each (λ later. low < later.0) marks →
+    Each (λ later. low < later.0) (placed client seq marks)
 Each-placed low client seq [] lt h = (lt, tt)
 Each-placed low client seq (first ∷ rest) lt h = by_place (Each-placed low client seq rest lt h.1) (nat_lt first.0 client) (first.0 == client)
   where
@@ -45,7 +46,8 @@ IsMarkMap-placed : (client seq : ℕ) (marks : MarkMap) → 0 < seq → IsMarkMa
 IsMarkMap-placed client seq [] lt h = (lt, tt, tt)
 IsMarkMap-placed client seq (first ∷ rest) lt h = by_place (IsMarkMap-placed client seq rest lt h.2) (nat_lt first.0 client) (first.0 == client) refl refl
   where
-    by_place : IsMarkMap (placed client seq rest) → (b c : Bool) → nat_lt first.0 client ≡ b → (first.0 == client) ≡ c → IsMarkMap (if b then first ∷ placed client seq rest else if c then (client, max first.1 seq) ∷ rest else (client, seq) ∷ (first ∷ rest))
+    by_place : IsMarkMap (placed client seq rest) → (b c : Bool) → nat_lt first.0 client ≡ b → (first.0 == client) ≡ c →
+        IsMarkMap (if b then first ∷ placed client seq rest else if c then (client, max first.1 seq) ∷ rest else (client, seq) ∷ (first ∷ rest))
     by_place more true c e f = (h.0, Each-placed first.0 client seq rest (grind (arith, nat_tests, e)) h.1, more)
     by_place more false true e f =
         let same : first.0 ≡ client = grind (arith, nat_tests, f) in
@@ -68,17 +70,21 @@ IsMarkMap-joined marks [] h = h
 IsMarkMap-joined marks (first ∷ rest) h = IsMarkMap-joined (raised first.0 first.1 marks) rest (IsMarkMap-raised first.0 first.1 marks h)
 
 -- of each client the greater of its two marks
-pub mark_of-joined : (marks more : MarkMap) (client : ℕ) → IsMarkMap marks → IsMarkMap more → mark_of (joined_marks marks more) client ≡ max (mark_of marks client) (mark_of more client)
+pub mark_of-joined : (marks more : MarkMap) (client : ℕ) → IsMarkMap marks → IsMarkMap more →
+    mark_of (joined_marks marks more) client ≡ max (mark_of marks client) (mark_of more client)
 mark_of-joined marks [] client h k = grind (arith, nat_tests)
 mark_of-joined marks (first ∷ rest) client h k =
     let again : mark_of (joined_marks (raised first.0 first.1 marks) rest) client ≡ max (mark_of (raised first.0 first.1 marks) client) (mark_of rest client) = mark_of-joined (raised first.0 first.1 marks) rest client (IsMarkMap-raised first.0 first.1 marks h) k.2 in
     by_client (first.0 == client) refl again
   where
-    by_client : (b : Bool) → (first.0 == client) ≡ b → mark_of (joined_marks (raised first.0 first.1 marks) rest) client ≡ max (mark_of (raised first.0 first.1 marks) client) (mark_of rest client) → mark_of (joined_marks (raised first.0 first.1 marks) rest) client ≡ max (mark_of marks client) (if b then first.1 else mark_of rest client)
+    by_client : (b : Bool) → (first.0 == client) ≡ b →
+        mark_of (joined_marks (raised first.0 first.1 marks) rest) client ≡ max (mark_of (raised first.0 first.1 marks) client) (mark_of rest client) →
+        mark_of (joined_marks (raised first.0 first.1 marks) rest) client ≡ max (mark_of marks client) (if b then first.1 else mark_of rest client)
     by_client true e again =
         let same : first.0 ≡ client = grind (arith, nat_tests, e) in
         let none : mark_of rest client ≡ 0 = mark_of-before client rest (subst (λ n. Each (λ later. n < later.0) rest) same k.1) in
-        let here : mark_of (raised first.0 first.1 marks) client ≡ max (mark_of marks client) first.1 = subst (λ n. mark_of (raised n first.1 marks) client ≡ max (mark_of marks client) first.1) (sym same) (mark_of-raised client first.1 marks h) in
+        let here : mark_of (raised first.0 first.1 marks) client ≡ max (mark_of marks client) first.1 =
+        subst (λ n. mark_of (raised n first.1 marks) client ≡ max (mark_of marks client) first.1) (sym same) (mark_of-raised client first.1 marks h) in
         omega (arith, again, none, here)
     by_client false e again =
         let apart : client ≢ first.0 = grind (arith, nat_tests, e) in
@@ -86,22 +92,26 @@ mark_of-joined marks (first ∷ rest) client h k =
         omega (arith, again, there)
 
 -- the first clients of two maps with the same marks are one
-same_client : (x y : ℕ × ℕ) (xs ys : MarkMap) → IsMarkMap (x ∷ xs) → IsMarkMap (y ∷ ys) → ((client : ℕ) → mark_of (x ∷ xs) client ≡ mark_of (y ∷ ys) client) → x.0 ≡ y.0
+same_client : (x y : ℕ × ℕ) (xs ys : MarkMap) → IsMarkMap (x ∷ xs) → IsMarkMap (y ∷ ys) →
+    ((client : ℕ) → mark_of (x ∷ xs) client ≡ mark_of (y ∷ ys) client) → x.0 ≡ y.0
 same_client x y xs ys h k e =
     let here : mark_of (x ∷ xs) x.0 ≡ x.1 = grind (arith, nat_tests) in
     let there : mark_of (y ∷ ys) y.0 ≡ y.1 = grind (arith, nat_tests) in
     let left : x.0 < y.0 → ⊥ = λ lt.
-    (let none : mark_of (y ∷ ys) x.0 ≡ 0 = mark_of-before x.0 (y ∷ ys) (lt, Each-weaker (λ later. y.0 < later.0) (λ later. x.0 < later.0) (λ later more. omega (arith, lt, more)) ys k.1) in
+    (let none : mark_of (y ∷ ys) x.0 ≡ 0 =
+    mark_of-before x.0 (y ∷ ys) (lt, Each-weaker (λ later. y.0 < later.0) (λ later. x.0 < later.0) (λ later more. omega (arith, lt, more)) ys k.1) in
     omega (arith, here, none, e x.0, h.0)) in
     let right : y.0 < x.0 → ⊥ = λ lt.
-    (let none : mark_of (x ∷ xs) y.0 ≡ 0 = mark_of-before y.0 (x ∷ xs) (lt, Each-weaker (λ later. x.0 < later.0) (λ later. y.0 < later.0) (λ later more. omega (arith, lt, more)) xs h.1) in
+    (let none : mark_of (x ∷ xs) y.0 ≡ 0 =
+    mark_of-before y.0 (x ∷ xs) (lt, Each-weaker (λ later. x.0 < later.0) (λ later. y.0 < later.0) (λ later more. omega (arith, lt, more)) xs h.1) in
     omega (arith, there, none, e y.0, k.0)) in
     grind (arith, left, right)
 
 same_seq : (x y : ℕ × ℕ) (xs ys : MarkMap) → x.0 ≡ y.0 → mark_of (x ∷ xs) x.0 ≡ mark_of (y ∷ ys) x.0 → x.1 ≡ y.1
 same_seq x y xs ys client e = grind (arith, nat_tests, client, e)
 
-same_rest : (x y : ℕ × ℕ) (xs ys : MarkMap) → IsMarkMap (x ∷ xs) → IsMarkMap (y ∷ ys) → x.0 ≡ y.0 → ((client : ℕ) → mark_of (x ∷ xs) client ≡ mark_of (y ∷ ys) client) → (client : ℕ) → mark_of xs client ≡ mark_of ys client
+same_rest : (x y : ℕ × ℕ) (xs ys : MarkMap) → IsMarkMap (x ∷ xs) → IsMarkMap (y ∷ ys) → x.0 ≡ y.0 →
+    ((client : ℕ) → mark_of (x ∷ xs) client ≡ mark_of (y ∷ ys) client) → (client : ℕ) → mark_of xs client ≡ mark_of ys client
 same_rest x y xs ys h k same e client = by_client (x.0 == client) refl
   where
     by_client : (b : Bool) → (x.0 == client) ≡ b → mark_of xs client ≡ mark_of ys client
@@ -129,26 +139,14 @@ MarkMap-from_marks (x ∷ xs) (y ∷ ys) h k e =
     let rest : xs ≡ ys = MarkMap-from_marks xs ys h.2 k.2 (same_rest x y xs ys h k client e) in
     λ i. (client i, seq i) ∷ rest i
 
--- what is covered stays covered
-pub covers-raised : (client seq : ℕ) (marks : MarkMap) (id : TxnId) → IsMarkMap marks → covers marks id ≡ true → covers (raised client seq marks) id ≡ true
-covers-raised client seq marks id h e = by_client (id.client == client) refl
-  where
-    by_client : (b : Bool) → (id.client == client) ≡ b → covers (raised client seq marks) id ≡ true
-    by_client true f =
-        let same : id.client ≡ client = grind (arith, nat_tests, f) in
-        let mark : mark_of (raised client seq marks) id.client ≡ max (mark_of marks id.client) seq = subst (λ n. mark_of (raised n seq marks) id.client ≡ max (mark_of marks id.client) seq) same (mark_of-raised id.client seq marks h) in
-        grind (arith, nat_tests, mark, e)
-    by_client false f =
-        let mark : mark_of (raised client seq marks) id.client ≡ mark_of marks id.client = mark_of-raised_other client seq marks id.client (grind (arith, nat_tests, f)) in
-        grind (arith, nat_tests, mark, e)
-
 -- ---- the same, as an ordered map of the library
 
 pub unwrap_or-lookup : (marks : MarkMap) (client : ℕ) → unwrap_or (lookup (is_at (nat_cmp client)) marks) 0 ≡ mark_of marks client
 unwrap_or-lookup [] client = refl
 unwrap_or-lookup (first ∷ rest) client = grind (arith, nat_tests, unwrap_or-lookup rest client)
 
-insert_entry-placed : (marks : MarkMap) (client seq : ℕ) → IsMarkMap marks → mark_of marks client < seq → insert_entry nat_cmp marks client seq ≡ placed client seq marks
+insert_entry-placed : (marks : MarkMap) (client seq : ℕ) → IsMarkMap marks → mark_of marks client < seq →
+    insert_entry nat_cmp marks client seq ≡ placed client seq marks
 insert_entry-placed [] client seq h lt = refl
 insert_entry-placed (first ∷ rest) client seq h lt = by_place (insert_entry-placed rest client seq h.2) (nat_lt first.0 client) (first.0 == client) refl refl
   where
@@ -156,7 +154,8 @@ insert_entry-placed (first ∷ rest) client seq h lt = by_place (insert_entry-pl
     by_place more b c e f = grind (arith, nat_tests, e, f, more, lt)
 
 -- a mark that rises is an entry put in
-pub insert_entry-raised : (marks : MarkMap) (client seq : ℕ) → IsMarkMap marks → mark_of marks client < seq → insert_entry nat_cmp marks client seq ≡ raised client seq marks
+pub insert_entry-raised : (marks : MarkMap) (client seq : ℕ) → IsMarkMap marks → mark_of marks client < seq →
+    insert_entry nat_cmp marks client seq ≡ raised client seq marks
 insert_entry-raised marks client seq h lt = grind (arith, nat_tests, insert_entry-placed marks client seq h lt)
 
 -- one that does not rise changes nothing

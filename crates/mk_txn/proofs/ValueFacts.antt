@@ -1,5 +1,5 @@
 -- The test for one value, and the fact.
-use Rattle.std.proofs.Common.{◌≡◌, true, false, refl, ap, arith}
+use Rattle.std.proofs.Common.{◌≡◌, true, refl, ap, arith}
 use Rattle.std.proofs.lemmas.Bool.Decides.{nat_tests}
 use Rattle.mk_txn.specs.declared.Value.{Value}
 use Rattle.mk_txn.specs.declared.Value.TheVariants.{Number, Absent}

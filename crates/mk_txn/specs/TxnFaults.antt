@@ -29,4 +29,5 @@ abbrev pub txn_fault : Stamp → List ReadItem → List WriteItem → Option Txn
 txn_fault stamp reads writes =
     if nat_lt 16 (length reads) || nat_lt 16 (length writes)
     then Some TooMany
-    else fault_at Repeated (repeated_key (read_keys reads)) (fault_at Repeated (repeated_key (write_keys writes)) (fault_at NotAbove (key_not_above stamp reads) None))
+    else fault_at Repeated (repeated_key (read_keys reads))
+    (fault_at Repeated (repeated_key (write_keys writes)) (fault_at NotAbove (key_not_above stamp reads) None))

@@ -7,8 +7,6 @@ mod clashing;
 mod faults;
 mod marking;
 mod stamping;
-#[cfg(test)]
-mod tests;
 mod transaction;
 
 pub use clashing::conflicts;
@@ -21,28 +19,28 @@ pub use transaction::Txn;
 pub const LAST_TIME: u64 = 4_611_686_018_427_387_904;
 
 /// What a key holds: a number, or nothing since it was deleted.
-#[derive(Clone, Copy, Debug, PartialEq, Eq)]
+#[derive(Clone, Copy, PartialEq, Eq)]
 pub enum Value {
     Number(u64),
     Absent,
 }
 
 /// A point in the order of transactions: a time, and the client's number where times tie.
-#[derive(Clone, Copy, Debug, PartialEq, Eq, PartialOrd, Ord)]
+#[derive(Clone, Copy, PartialEq, Eq, PartialOrd, Ord)]
 pub struct Stamp {
     pub time: u64,
     pub client: u32,
 }
 
 /// The number of an attempt: its client, and its place among that client's attempts, from 1.
-#[derive(Clone, Copy, Debug, PartialEq, Eq, PartialOrd, Ord)]
+#[derive(Clone, Copy, PartialEq, Eq, PartialOrd, Ord, Hash)]
 pub struct TxnId {
     pub client: u32,
     pub seq: u32,
 }
 
 /// One read: the key, and the version and value that it gave.
-#[derive(Clone, Copy, Debug, PartialEq, Eq)]
+#[derive(Clone, Copy, PartialEq, Eq)]
 pub struct ReadItem {
     pub key: u32,
     pub version: Stamp,
@@ -50,14 +48,14 @@ pub struct ReadItem {
 }
 
 /// One write: the key, and what it is to hold.
-#[derive(Clone, Copy, Debug, PartialEq, Eq)]
+#[derive(Clone, Copy, PartialEq, Eq)]
 pub struct WriteItem {
     pub key: u32,
     pub value: Value,
 }
 
 /// Why a check at a key was refused.
-#[derive(Clone, Copy, Debug, PartialEq, Eq)]
+#[derive(Clone, Copy, PartialEq, Eq)]
 pub enum Reason {
     /// A write later than the version read was committed.
     ReadStale,
@@ -70,7 +68,7 @@ pub enum Reason {
 }
 
 /// A refused check: the key, the reason, and the stamp of the other transaction.
-#[derive(Clone, Copy, Debug, PartialEq, Eq)]
+#[derive(Clone, Copy, PartialEq, Eq)]
 pub struct Conflict {
     pub key: u32,
     pub reason: Reason,
@@ -78,14 +76,14 @@ pub struct Conflict {
 }
 
 /// What a replica answers to a validation.
-#[derive(Clone, Copy, Debug, PartialEq, Eq)]
+#[derive(Clone, Copy, PartialEq, Eq)]
 pub enum Vote {
     Ok,
     Abort(Conflict),
 }
 
 /// Why a transaction aborts.
-#[derive(Clone, Copy, Debug, PartialEq, Eq)]
+#[derive(Clone, Copy, PartialEq, Eq)]
 pub enum Cause {
     Conflict(Conflict),
     /// The takeover of this view found no trace of a commit.
@@ -95,21 +93,21 @@ pub enum Cause {
 }
 
 /// How a transaction ends.
-#[derive(Clone, Copy, Debug, PartialEq, Eq)]
+#[derive(Clone, Copy, PartialEq, Eq)]
 pub enum Outcome {
     Commit,
     Abort(Cause),
 }
 
 /// An outcome that a replica accepted, with the view in which it was proposed.
-#[derive(Clone, Copy, Debug, PartialEq, Eq)]
+#[derive(Clone, Copy, PartialEq, Eq)]
 pub struct Accepted {
     pub view: u32,
     pub outcome: Outcome,
 }
 
 /// What an epoch's base knows of an attempt.
-#[derive(Clone, Copy, Debug, PartialEq, Eq)]
+#[derive(Clone, Copy, PartialEq, Eq)]
 pub enum Known {
     Outcome(Outcome),
     /// The base has no outcome of it.
@@ -119,7 +117,7 @@ pub enum Known {
 }
 
 /// Want of memory, where it is the only refusal.
-#[derive(Clone, Copy, Debug, PartialEq, Eq)]
+#[derive(Clone, Copy, Debug)]
 pub struct NoMemory;
 
 impl From<AllocError> for NoMemory {

@@ -7,7 +7,7 @@ use std::collections::BTreeMap;
 use std::marker::Model;
 
 /// For each client the number up to which its attempts are known to need no more telling, and 0 for all others.
-#[derive(Drop, Debug)]
+#[derive(Drop)]
 pub struct Marks {
     seqs: BTreeMap<u32, u32>,
 }

@@ -7,7 +7,7 @@ use std::alloc::Global;
 use std::marker::Model;
 
 /// An attempt's number, stamp, reads and writes. It never changes.
-#[derive(Drop, Debug)]
+#[derive(Drop)]
 pub struct Txn {
     id: TxnId,
     stamp: Stamp,

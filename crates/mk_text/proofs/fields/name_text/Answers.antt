@@ -1,4 +1,4 @@
-use Rattle.mk_text.proofs.Names.{IsUtf8-name}
+use Rattle.mk_spelling.proofs.Names.{IsUtf8-name}
 use Rattle.mk_text.proofs.fields.name_text.Goals as goal
 
 pub returns-in-Err : goal.returns-in-Err

@@ -3,7 +3,7 @@ use Rattle.std.proofs.lemmas.Bool.Decides.{nat_tests}
 use Rattle.std.proofs.lemmas.List.{at_drop_more}
 use Rattle.std.specs.Char.{digit_value}
 use Rattle.std.specs.Str.Parse.{digits_value, digits_value_after}
-use Rattle.mk_text.proofs.Numbers.{le-digits_value_after, digit_value_at}
+use Rattle.mk_spelling.proofs.Numbers.{le-digits_value_after, digit_value_at}
 use Rattle.mk_text.proofs.fields.value.Goals as goal
 
 pub returns-then-next : goal.returns-then-next

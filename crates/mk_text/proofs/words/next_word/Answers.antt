@@ -1,5 +1,5 @@
 use Rattle.std.proofs.Common.{sym}
-use Rattle.mk_text.proofs.Cuts.{words-none, words-some}
+use Rattle.mk_spelling.proofs.Cuts.{words-none, words-some}
 use Rattle.mk_text.proofs.words.next_word.Goals as goal
 
 pub returns-in-None : goal.returns-in-None

@@ -1,7 +1,7 @@
 use Rattle.std.proofs.Common.{List, ℕ, Option, Bor, sym, ap, ◌∙◌}
-use Rattle.mk_text.specs.Words as spec
-use Rattle.mk_text.specs.Words.{none_left}
-use Rattle.mk_text.proofs.Cuts.{some_left}
+use Rattle.mk_spelling.specs.Words as spec
+use Rattle.mk_spelling.specs.Words.{none_left}
+use Rattle.mk_spelling.proofs.Cuts.{some_left}
 use Rattle.mk_text.proofs.words.none_left.Goals as goal
 
 pub returns-in-Some : goal.returns-in-Some

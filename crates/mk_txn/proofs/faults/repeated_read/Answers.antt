@@ -9,8 +9,12 @@ past_end = record { key = 0; version = record { time = 0; client = 0 }; value = 
 
 pub loop-i-preserved : goal.loop-i-preserved
 unfolding past_end
-loop-i-preserved c = sym (repeated_key-at (λ item. item.key) c.args.reads.now c.loop-i.i past_end _ c.loop-i-test.true (sym c.is_read.ensures ∙ c.if-is_read.false)) ∙ c.loop-i.invariant
+loop-i-preserved c =
+    sym (repeated_key-at (λ item. item.key) c.args.reads.now c.loop-i.i past_end _ c.loop-i-test.true (sym c.is_read.ensures ∙ c.if-is_read.false))
+    ∙ c.loop-i.invariant
 
 pub returns-then-is_read : goal.returns-then-is_read
 unfolding past_end
-returns-then-is_read c = sym (repeated_key-at (λ item. item.key) c.args.reads.now c.loop-i.i past_end _ c.loop-i-test.true (sym c.is_read.ensures ∙ c.if-is_read.true)) ∙ c.loop-i.invariant
+returns-then-is_read c =
+    sym (repeated_key-at (λ item. item.key) c.args.reads.now c.loop-i.i past_end _ c.loop-i-test.true (sym c.is_read.ensures ∙ c.if-is_read.true))
+    ∙ c.loop-i.invariant

@@ -18,4 +18,5 @@ pub returns-in_ok-insert-clause-ok : goal.returns-in_ok-insert-clause-ok
 returns-in_ok-insert-clause-ok c = entries-raised c
 
 pub returns-else-get-seq-clause-ok : goal.returns-else-get-seq-clause-ok
-returns-else-get-seq-clause-ok c = sym (raised-low c.args.self.now c.args.client c.args.seq c.get.ensures.fits (omega (arith, c.get.ensures.value, c.if-get-seq.false)))
+returns-else-get-seq-clause-ok c =
+    sym (raised-low c.args.self.now c.args.client c.args.seq c.get.ensures.fits (omega (arith, c.get.ensures.value, c.if-get-seq.false)))

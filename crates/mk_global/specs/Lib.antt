@@ -1,2 +1,0 @@
--- Global lines: which numbers they may name, and which answers they may have.
-pub mod Lines

@@ -1,0 +1,2 @@
+//! What columns and epochs do, as definitions.
+#![tactic(auto)]

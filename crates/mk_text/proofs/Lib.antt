@@ -1,7 +1,0 @@
-pub mod Cuts
-pub mod Numbers
-pub mod FieldLaws
-pub mod Joins
-pub mod Names
-pub mod TextLaws
-pub mod PieceLaws

@@ -1,0 +1,19 @@
+-- The words of the whole store: what its definitions speak of, lowest first.
+pub mod Acts
+pub mod Pending
+pub mod Cells
+pub mod Journals
+pub mod Exclusions
+pub mod Checks
+pub mod Validations
+pub mod Entries
+pub mod Links
+pub mod Rulings
+pub mod Picks
+pub mod KeptOutcomes
+pub mod Settling
+pub mod Bases
+pub mod Rebuilding
+pub mod Promises
+pub mod Merging
+pub mod Lines
