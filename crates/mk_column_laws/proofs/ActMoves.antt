@@ -1,35 +1,37 @@
 -- What each step does to key acts.
-use Rattle.std.proofs.Common.{◌≡◌, ◌∙◌, ℕ, true, refl, arith, sym, ap, subst, List, [], ◌∷◌, ◌++◌, Option, Some, None, ◌&&◌, ◌==◌}
+use Rattle.std.proofs.Common.{◌≡◌, ◌∙◌, ℕ, true, refl, arith, sym, ap, subst, [], ◌∷◌, ◌++◌, Option, Some, None, ◌&&◌, ◌==◌}
 use Rattle.std.specs.Prelude.{option_map}
 use Rattle.std.proofs.lemmas.Bool.Decides.{nat_tests}
+use Rattle.std.proofs.lemmas.Bool.{and_parts}
+use Rattle.std.proofs.lemmas.List.{append-nil}
+use Rattle.mk_lists.proofs.Changes.{find-change}
 use Rattle.mk_txn.specs.declared.Value.{Value}
 use Rattle.mk_txn.specs.declared.Value.TheVariants.{Number, Absent}
 use Rattle.mk_txn.specs.Stamps.{same_stamp}
 use Rattle.mk_txn.specs.Transactions.{Transaction, same_value}
 use Rattle.mk_txn.proofs.StampOrder.{same_stamp-tells}
-use Rattle.mk_cell.specs.declared.Act.{Act}
-use Rattle.mk_cell.specs.declared.Act.TheVariants.{Get, CheckRead, CheckWrite, CommitRead, CommitWrite, ReleaseRead, ReleaseWrite}
-use Rattle.mk_cell.specs.declared.Answer.{Answer}
-use Rattle.mk_cell.specs.Acts.{same_act}
-use Rattle.mk_record.specs.Entries.{entry_of}
+use Rattle.mk_words.specs.declared.Act.{Act}
+use Rattle.mk_words.specs.declared.Act.TheVariants.{Get, CheckRead, CheckWrite, CommitRead, CommitWrite, ReleaseRead, ReleaseWrite}
+use Rattle.mk_words.specs.declared.Answer.{Answer}
+use Rattle.mk_words.specs.Acts.{same_act}
+use Rattle.mk_words.specs.Entries.{entry_of}
 use Rattle.mk_quorum.specs.Slots.{passes}
-use Rattle.mk_valid.specs.Checks.{KeyAct}
-use Rattle.mk_valid.specs.Validations.{ValidationState, next_act, after_answer, vote_of}
-use Rattle.mk_column.specs.declared.KeyCall.{KeyCall}
-use Rattle.mk_column.specs.declared.Step.{Step}
-use Rattle.mk_column.specs.declared.Step.TheVariants.{Begin, Unread, Read, Stamp, Validate, Take, Key, Rule, Again, Takeover, Pick as PickStep, Stop}
-use Rattle.mk_column.specs.ColumnState.{ColumnState, AttemptState, Work, entries_at, attempt_of, is_attempt}
-use Rattle.mk_column.specs.ColumnState.Work.{Idle, Fetching, Validating, Finishing}
-use Rattle.mk_column.specs.Conditions.{conditions, same_call, call_at, wanted}
+use Rattle.mk_words.specs.Checks.{KeyAct}
+use Rattle.mk_words.specs.Validations.{ValidationState, next_act, after_answer, vote_of}
+use Rattle.mk_words.specs.declared.KeyCall.{KeyCall}
+use Rattle.mk_words.specs.declared.Step.{Step}
+use Rattle.mk_words.specs.declared.Step.TheVariants.{Begin, Unread, Read, Stamp, Validate, Take, Key, Rule, Again, Takeover, Pick as PickStep, Stop}
+use Rattle.mk_model.specs.ColumnState.{ColumnState, AttemptState, Work, entries_at, attempt_of, is_attempt}
+use Rattle.mk_model.specs.ColumnState.Work.{Idle, Fetching, Validating, Finishing}
+use Rattle.mk_model.specs.Conditions.{conditions, same_call, call_at, wanted}
 use Rattle.mk_txn.specs.declared.TxnId.{TxnId}
-use Rattle.mk_column.specs.Steps.{with_read, answered, validated}
-use Rattle.mk_column.proofs.Frames.{AllTrue}
+use Rattle.mk_model.specs.Steps.{with_read, answered, validated}
+use Rattle.mk_model.proofs.Frames.{AllTrue}
 use Rattle.mk_column_laws.specs.Moments.{Moment, Taught, step_done, act_of, remembered}
 use Rattle.mk_column_laws.specs.Moves.{past_opened}
 use Rattle.mk_column_laws.specs.Facts.{Facts}
 use Rattle.mk_column_laws.specs.KeyActs.{ActMove}
 use Rattle.mk_column_laws.specs.KeyActs.ActMove.{NoAct, ActFetched, ActChecked, ActVoted, ActFinished}
-use Rattle.mk_column_laws.proofs.Lookups.{and_left, and_right, find-change}
 use Rattle.mk_column_laws.proofs.SortedEntries.{validated_entry}
 use Rattle.mk_column_laws.proofs.SortedSteps.{idle_from}
 
@@ -42,14 +44,14 @@ same_value-tells Absent Absent e = refl
 same_act-tells : (a b : Act) → same_act a b ≡ true → a ≡ b
 same_act-tells Get Get e = refl
 same_act-tells (CheckRead ts v) (CheckRead ts' v') e =
-    let p = same_stamp-tells ts ts' (and_left (same_stamp ts ts') (same_stamp v v') e) in
-    let q = same_stamp-tells v v' (and_right (same_stamp ts ts') (same_stamp v v') e) in
+    let p = same_stamp-tells ts ts' (and_parts (same_stamp ts ts') (same_stamp v v') e).0 in
+    let q = same_stamp-tells v v' (and_parts (same_stamp ts ts') (same_stamp v v') e).1 in
     λ i. CheckRead (p i) (q i)
 same_act-tells (CheckWrite ts) (CheckWrite ts') e = ap CheckWrite (same_stamp-tells ts ts' e)
 same_act-tells (CommitRead ts) (CommitRead ts') e = ap CommitRead (same_stamp-tells ts ts' e)
 same_act-tells (CommitWrite ts v) (CommitWrite ts' v') e =
-    let p = same_stamp-tells ts ts' (and_left (same_stamp ts ts') (same_value v v') e) in
-    let q = same_value-tells v v' (and_right (same_stamp ts ts') (same_value v v') e) in
+    let p = same_stamp-tells ts ts' (and_parts (same_stamp ts ts') (same_value v v') e).0 in
+    let q = same_value-tells v v' (and_parts (same_stamp ts ts') (same_value v v') e).1 in
     λ i. CommitWrite (p i) (q i)
 same_act-tells (ReleaseRead ts) (ReleaseRead ts') e = ap ReleaseRead (same_stamp-tells ts ts' e)
 same_act-tells (ReleaseWrite ts) (ReleaseWrite ts') e = ap ReleaseWrite (same_stamp-tells ts ts' e)
@@ -57,15 +59,11 @@ same_act-tells _ _ e = absurd (cc e)
 
 same_call-tells : (a b : KeyCall) → same_call a b ≡ true → a ≡ b
 same_call-tells a b e =
-    let two = and_left (a.replica == b.replica && a.key == b.key) (same_act a.act b.act) e in
+    let two = (and_parts (a.replica == b.replica && a.key == b.key) (same_act a.act b.act) e).0 in
     let p : a.replica ≡ b.replica = grind (arith, nat_tests, two) in
     let q : a.key ≡ b.key = grind (arith, nat_tests, two) in
-    let s = same_act-tells a.act b.act (and_right (a.replica == b.replica && a.key == b.key) (same_act a.act b.act) e) in
+    let s = same_act-tells a.act b.act (and_parts (a.replica == b.replica && a.key == b.key) (same_act a.act b.act) e).1 in
     λ i. record { replica = p i; key = q i; act = s i }
-
-nothing_after : {X : Type 0} (xs : List X) → xs ≡ xs ++ []
-nothing_after [] = refl
-nothing_after (x ∷ xs) = ap (λ l. x ∷ l) (nothing_after xs)
 
 module _ (taught : Taught) (m : Moment) (h : Facts taught m) where
   -- the step that is this call
@@ -114,14 +112,14 @@ module _ (taught : Taught) (m : Moment) (h : Facts taught m) where
 
   pub act_moves : (step : Step) → AllTrue (conditions m.round m.column step) → ActMove m (step_done step m)
   act_moves (Key call answer) c = key_move call answer m.column.work refl c.0
-  act_moves (Begin client replica) c = NoAct (sym (nothing_after m.past.acts)) (idle_from m.column.work c.0)
-  act_moves (Unread client) c = NoAct (sym (nothing_after m.past.acts)) (idle_from m.column.work c.0)
-  act_moves (Read id key) c = NoAct (sym (nothing_after m.past.acts)) (idle_from m.column.work c.0)
-  act_moves (Stamp id clock writes) c = NoAct (sym (nothing_after m.past.acts)) (idle_from m.column.work c.0)
-  act_moves (Validate id) c = NoAct (sym (nothing_after m.past.acts)) (idle_from m.column.work c.0)
-  act_moves (Take number) c = NoAct (sym (nothing_after m.past.acts)) (idle_from m.column.work c.0)
-  act_moves (Rule id) c = NoAct (sym (nothing_after m.past.acts)) (idle_from m.column.work c.0)
-  act_moves (Again id) c = NoAct (sym (nothing_after m.past.acts)) (idle_from m.column.work c.0)
-  act_moves (Takeover id view) c = NoAct (sym (nothing_after m.past.acts)) (idle_from m.column.work c.0)
-  act_moves (PickStep id view) c = NoAct (sym (nothing_after m.past.acts)) (idle_from m.column.work c.0)
-  act_moves (Stop id) c = NoAct (sym (nothing_after m.past.acts)) (idle_from m.column.work c.0)
+  act_moves (Begin client replica) c = NoAct (sym ((sym (append-nil m.past.acts)))) (idle_from m.column.work c.0)
+  act_moves (Unread client) c = NoAct (sym ((sym (append-nil m.past.acts)))) (idle_from m.column.work c.0)
+  act_moves (Read id key) c = NoAct (sym ((sym (append-nil m.past.acts)))) (idle_from m.column.work c.0)
+  act_moves (Stamp id clock writes) c = NoAct (sym ((sym (append-nil m.past.acts)))) (idle_from m.column.work c.0)
+  act_moves (Validate id) c = NoAct (sym ((sym (append-nil m.past.acts)))) (idle_from m.column.work c.0)
+  act_moves (Take number) c = NoAct (sym ((sym (append-nil m.past.acts)))) (idle_from m.column.work c.0)
+  act_moves (Rule id) c = NoAct (sym ((sym (append-nil m.past.acts)))) (idle_from m.column.work c.0)
+  act_moves (Again id) c = NoAct (sym ((sym (append-nil m.past.acts)))) (idle_from m.column.work c.0)
+  act_moves (Takeover id view) c = NoAct (sym ((sym (append-nil m.past.acts)))) (idle_from m.column.work c.0)
+  act_moves (PickStep id view) c = NoAct (sym ((sym (append-nil m.past.acts)))) (idle_from m.column.work c.0)
+  act_moves (Stop id) c = NoAct (sym ((sym (append-nil m.past.acts)))) (idle_from m.column.work c.0)

@@ -1,5 +1,6 @@
 -- Key acts by the stamps that they name.
 use Rattle.std.proofs.Common.{◌≡◌, ◌≤◌, ◌∙◌, ℕ, refl, inl, inr, sym, subst, List, [], ◌∷◌, Some, map}
+use Rattle.std.proofs.lemmas.Option.{same_Some}
 use Rattle.mk_lists.specs.Among.{Among, Among-append}
 use Rattle.mk_txn.specs.declared.TxnId.{TxnId}
 use Rattle.mk_txn.specs.declared.Stamp.{Stamp}
@@ -8,14 +9,13 @@ use Rattle.mk_txn.specs.declared.WriteItem.{WriteItem}
 use Rattle.mk_txn.specs.declared.Outcome.TheVariants.{Abort}
 use Rattle.mk_txn.specs.declared.Cause.{Cause}
 use Rattle.mk_txn.specs.Transactions.{Transaction}
-use Rattle.mk_cell.specs.declared.Act.{Act}
-use Rattle.mk_cell.specs.declared.Act.TheVariants.{Get, CheckRead, CheckWrite, CommitRead, CommitWrite, ReleaseRead, ReleaseWrite}
-use Rattle.mk_valid.specs.Checks.{KeyAct, checks, commits_of, releases_of}
+use Rattle.mk_words.specs.declared.Act.{Act}
+use Rattle.mk_words.specs.declared.Act.TheVariants.{Get, CheckRead, CheckWrite, CommitRead, CommitWrite, ReleaseRead, ReleaseWrite}
+use Rattle.mk_words.specs.Checks.{KeyAct, checks, commits_of, releases_of}
 use Rattle.mk_column_laws.specs.Moments.{Moment, PastEntry, Taught, StaysTaught, IsReached}
 use Rattle.mk_column_laws.specs.KeyActs.{ActOrigin, ReleaseReason}
 use Rattle.mk_column_laws.specs.KeyActs.ActOrigin.{OfRead, OfCheck, OfRelease, OfCommit}
 use Rattle.mk_column_laws.specs.ActLaws.{Releases, ChecksFor, CommitsFor, StampReleased, CommittedBy, CommitsOfFinal, CheckedBy, ChecksOfStamp}
-use Rattle.mk_column_laws.proofs.Lookups.{some_same}
 use Rattle.mk_column_laws.proofs.Rounds.{reached_facts}
 use Rattle.mk_column_laws.proofs.RoundActs.{acts_have_origin, releases_of_ok}
 use Rattle.mk_column_laws.proofs.IdentitySteps.{stamps_name}
@@ -80,7 +80,7 @@ read_is_none act g = ((λ s r. rel s r, λ s c. chk s c), λ s c. commits s c)
     commits s (inl e) = cc (g, e)
     commits s (inr e) = let q = e.1 in cc (g, q)
 
-same_release : (s t : Stamp) (act : Act) → Releases s act → Releases t act → s ≡ t
+pub same_release : (s t : Stamp) (act : Act) → Releases s act → Releases t act → s ≡ t
 same_release s t act (inl e) (inl f) = let k : ReleaseRead s ≡ ReleaseRead t = sym e ∙ f in cc k
 same_release s t act (inl e) (inr f) = absurd (cc (e, f))
 same_release s t act (inr e) (inl f) = absurd (cc (e, f))
@@ -108,7 +108,7 @@ one_entry taught stays m reached r id other e f p q same =
     let x = h.entries r id e p in
     let y = h.entries r other f q in
     let names = stamps_name taught stays m reached id other x.attempt y.attempt e.txn f.txn x.found y.found x.stamped y.stamped same in
-    (names, some_same e f (sym p ∙ (λ i. m.past.entries r (names i)) ∙ q))
+    (names, same_Some e f (sym p ∙ (λ i. m.past.entries r (names i)) ∙ q))
 
 pub stamp_released : StampReleased
 stamp_released taught stays m reached act id entry voted a found vote rel = by (acts_have_origin taught stays m reached act a).1

@@ -1,21 +1,22 @@
 -- Two outcomes that are decided, each in whatever way, agree.
-use Rattle.std.proofs.Common.{◌≡◌, ◌⊎◌, ◌<◌, ◌≤◌, ℕ, suc, true, refl, arith, inl, inr, sym, List, Option, subst}
+use Rattle.std.proofs.Common.{◌≡◌, ◌⊎◌, ◌≤◌, ℕ, suc, true, refl, arith, inl, inr, sym, List, Option, subst}
+use Rattle.std.proofs.lemmas.Bool.{cases_order}
 use Rattle.mk_txn.specs.declared.TxnId.{TxnId}
 use Rattle.mk_txn.specs.declared.Vote.{Vote}
 use Rattle.mk_txn.specs.declared.Vote.TheVariants.{Ok as VoteOk}
 use Rattle.mk_txn.specs.declared.Outcome.{Outcome}
 use Rattle.mk_txn.specs.declared.Outcome.TheVariants.{Commit, Abort}
 use Rattle.mk_txn.specs.Outcomes.{is_ok_vote, agrees}
-use Rattle.mk_msg.specs.declared.Msg.{Msg}
-use Rattle.mk_msg.specs.declared.Body.TheVariants.{Voted}
+use Rattle.mk_words.specs.declared.Msg.{Msg}
+use Rattle.mk_words.specs.declared.Body.TheVariants.{Voted}
 use Rattle.mk_quorum.specs.Slots.{slot, passes, count_slots}
 use Rattle.mk_quorum.specs.Sizes.{members, fast_of}
-use Rattle.mk_coord.specs.Rulings.{is_abort_vote}
-use Rattle.mk_column.specs.Sending.{Sent, Proposed}
+use Rattle.mk_quorum.proofs.Slots.{passes-some}
+use Rattle.mk_words.specs.Rulings.{is_abort_vote}
+use Rattle.mk_model.specs.Sending.{Sent, Proposed}
 use Rattle.mk_column_laws.specs.Messages.{VotesIn}
-use Rattle.mk_column.specs.Deciding.{IsChosen}
+use Rattle.mk_model.specs.Deciding.{IsChosen}
 use Rattle.mk_column_laws.proofs.Orderly.{IsOrderly}
-use Rattle.mk_column_laws.proofs.Lookups.{passes-some}
 use Rattle.mk_column_laws.proofs.Choices.{chosen_kept, fast_kept, FastCounts, share, ok_vote-is, abort_vote-is}
 
 pub agrees-itself : (o : Outcome) → agrees o o ≡ true
@@ -38,15 +39,12 @@ pub record IsFast (f : ℕ) (link : List Msg) (id : TxnId) (o : Outcome) : Type 
 abbrev pub Decided : ℕ → List Msg → TxnId → Outcome → Type 0
 Decided f link id o = ((v : ℕ) × IsChosen f link id v o) ⊎ IsFast f link id o
 
-compare : (v w : ℕ) → (v < w) ⊎ ((v ≡ w) ⊎ (w < v))
-compare v w = grind arith
-
 module _ (f : ℕ) (link : List Msg) (ok : IsOrderly f link) (id : TxnId) where
   chosen_agree : (v w : ℕ) (o p : Outcome) → IsChosen f link id v o → IsChosen f link id w p → o ≡ p
   chosen_agree v w o p c d =
-      elim (compare v w) [
-        | inl lt ↦ sym (chosen_kept f link ok id (suc w) v w o p (omega arith) lt c d.0)
-        | inr (inl e) ↦ ok.one_proposal id w o p (subst (λ (n : ℕ). Proposed link id n o) e c.0) d.0
+      elim (cases_order v w) [
+        | inl e ↦ ok.one_proposal id w o p (subst (λ (n : ℕ). Proposed link id n o) e c.0) d.0
+        | inr (inl lt) ↦ sym (chosen_kept f link ok id (suc w) v w o p (omega arith) lt c d.0)
         | inr (inr lt) ↦ chosen_kept f link ok id (suc v) w v p o (omega arith) lt d c.0
       ]
 

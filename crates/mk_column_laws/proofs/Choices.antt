@@ -2,7 +2,9 @@
 use Rattle.std.proofs.Common.{◌≡◌, ◌⊎◌, ◌<◌, ◌≤◌, ℕ, zero, suc, ◌+◌, Bool, true, false, refl, arith, inl, inr, sym, ap, ◌∙◌, List, [], ◌∷◌, Option, Some, None, subst, cond, map, not, ◌&&◌}
 use Rattle.std.specs.Prelude.{nat_lt, nat_le, ◌==◌}
 use Rattle.std.proofs.lemmas.Bool.Decides.{nat_tests}
+use Rattle.std.proofs.lemmas.Bool.{and_parts}
 use Rattle.mk_lists.specs.Among.{Among}
+use Rattle.mk_lists.proofs.Tests.{Among-from_list_any}
 use Rattle.mk_txn.specs.declared.TxnId.{TxnId}
 use Rattle.mk_txn.specs.declared.Cause.{Cause}
 use Rattle.mk_txn.specs.declared.Cause.TheVariants.{Takeover as ByTakeover}
@@ -13,24 +15,24 @@ use Rattle.mk_txn.specs.declared.Outcome.{Outcome}
 use Rattle.mk_txn.specs.declared.Outcome.TheVariants.{Commit, Abort}
 use Rattle.mk_txn.specs.Outcomes.{is_ok_vote, highest, agrees}
 use Rattle.mk_txn.specs.Transactions.{same_id}
-use Rattle.mk_txn.proofs.ClashFacts.{member-from_list_any}
-use Rattle.mk_msg.specs.declared.Told.{Told}
-use Rattle.mk_msg.specs.declared.Msg.{Msg}
-use Rattle.mk_msg.specs.declared.Body.{Body}
-use Rattle.mk_msg.specs.declared.Body.TheVariants.{Voted, Accepted as AcceptedBody}
+use Rattle.mk_txn.proofs.IdOrder.{same_id-tells}
+use Rattle.mk_words.specs.declared.Told.{Told}
+use Rattle.mk_words.specs.declared.Msg.{Msg}
+use Rattle.mk_words.specs.declared.Body.{Body}
+use Rattle.mk_words.specs.declared.Body.TheVariants.{Voted, Accepted as AcceptedBody}
 use Rattle.mk_quorum.specs.Counts.{count_below}
 use Rattle.mk_quorum.specs.Sizes.{members, majority_of, fast_of, block_of}
 use Rattle.mk_quorum.specs.Slots.{slot, passes, count_slots}
 use Rattle.mk_quorum.proofs.Meeting.{majorities_meet, count_below-overlap, count_below-both}
-use Rattle.mk_coord.specs.declared.Ruling.TheVariants.{Fast, Propose, Short}
-use Rattle.mk_coord.specs.Rulings.{by_votes, is_abort_vote, any_vote, first_refusal}
-use Rattle.mk_takeover.specs.declared.Pick.TheVariants.{Propose as PickPropose, Short as PickShort, Unclear}
-use Rattle.mk_takeover.specs.Picks.{by_promises, by_accepted, by_counts, is_promise, is_ok_promise, is_other_promise, accepted_in}
-use Rattle.mk_column.specs.Sending.{Sent, Proposed, msg_of}
+use Rattle.mk_quorum.proofs.Slots.{passes-some}
+use Rattle.mk_words.specs.declared.Ruling.TheVariants.{Fast, Propose, Short}
+use Rattle.mk_words.specs.Rulings.{by_votes, is_abort_vote, any_vote, first_refusal}
+use Rattle.mk_words.specs.declared.Pick.TheVariants.{Propose as PickPropose, Short as PickShort, Unclear}
+use Rattle.mk_words.specs.Picks.{by_promises, by_accepted, by_counts, is_promise, is_ok_promise, is_other_promise, accepted_in}
+use Rattle.mk_model.specs.Sending.{Sent, Proposed, msg_of}
 use Rattle.mk_column_laws.specs.Messages.{VotesIn, RepliesIn, taking_over}
-use Rattle.mk_column.specs.Deciding.{IsChosen, has_accepted, is_accepted_body}
+use Rattle.mk_model.specs.Deciding.{IsChosen, has_accepted, is_accepted_body}
 use Rattle.mk_column_laws.proofs.Orderly.{IsOrderly}
-use Rattle.mk_column_laws.proofs.Lookups.{same_id-tells, passes-some, and_left, and_right}
 use Rattle.mk_column_laws.proofs.Highest.{highest-above, highest-member}
 
 slot-accepted_in : (replies : List (Option Told)) (r : ℕ) → slot (map accepted_in replies) r ≡ accepted_in (slot replies r)
@@ -48,13 +50,13 @@ is_accepted_body-tells _ e = cc e
 
 pub accept_sent : (link : List Msg) (id : TxnId) (view r : ℕ) → has_accepted link id view r ≡ true → Sent link id r view AcceptedBody
 accept_sent link id view r e =
-    let m = member-from_list_any (λ msg. is_accepted_body msg.body && same_id msg.id id && msg.view == view && msg.replica == r) link e in
-    let three = and_left (is_accepted_body m.0.body && same_id m.0.id id && m.0.view == view) (m.0.replica == r) m.2 in
-    let replica : m.0.replica ≡ r = (let k = and_right (is_accepted_body m.0.body && same_id m.0.id id && m.0.view == view) (m.0.replica == r) m.2 in grind (arith, nat_tests, k)) in
-    let two = and_left (is_accepted_body m.0.body && same_id m.0.id id) (m.0.view == view) three in
-    let viewed : m.0.view ≡ view = (let k = and_right (is_accepted_body m.0.body && same_id m.0.id id) (m.0.view == view) three in grind (arith, nat_tests, k)) in
-    let body = is_accepted_body-tells m.0.body (and_left (is_accepted_body m.0.body) (same_id m.0.id id) two) in
-    let attempt = same_id-tells m.0.id id (and_right (is_accepted_body m.0.body) (same_id m.0.id id) two) in
+    let m = Among-from_list_any (λ msg. is_accepted_body msg.body && same_id msg.id id && msg.view == view && msg.replica == r) link e in
+    let three = (and_parts (is_accepted_body m.0.body && same_id m.0.id id && m.0.view == view) (m.0.replica == r) m.2).0 in
+    let replica : m.0.replica ≡ r = (let k = (and_parts (is_accepted_body m.0.body && same_id m.0.id id && m.0.view == view) (m.0.replica == r) m.2).1 in grind (arith, nat_tests, k)) in
+    let two = (and_parts (is_accepted_body m.0.body && same_id m.0.id id) (m.0.view == view) three).0 in
+    let viewed : m.0.view ≡ view = (let k = (and_parts (is_accepted_body m.0.body && same_id m.0.id id) (m.0.view == view) three).1 in grind (arith, nat_tests, k)) in
+    let body = is_accepted_body-tells m.0.body (and_parts (is_accepted_body m.0.body) (same_id m.0.id id) two).0 in
+    let attempt = same_id-tells m.0.id id (and_parts (is_accepted_body m.0.body) (same_id m.0.id id) two).1 in
     let same : m.0 ≡ msg_of m.0.epoch id r view AcceptedBody = λ i. record { epoch = m.0.epoch; id = attempt i; replica = replica i; view = viewed i; body = body i } in
     (m.0.epoch, subst (λ (x : Msg). Among x link) same m.1)
 
@@ -202,10 +204,10 @@ abort_vote-is VoteOk e h = cc e
 abort_vote-is (VoteAbort c) e h = cc h
 
 pub ok_promise-votes : (t : Told) → is_ok_promise t ≡ true → passes is_ok_vote t.vote ≡ true
-ok_promise-votes t e = and_right (is_promise t) (passes is_ok_vote t.vote) e
+ok_promise-votes t e = (and_parts (is_promise t) (passes is_ok_vote t.vote) e).1
 
 other_promise-votes : (t : Told) → is_other_promise t ≡ true → passes is_ok_vote t.vote ≡ false
-other_promise-votes t e = not-true (passes is_ok_vote t.vote) (and_right (is_promise t) (not (passes is_ok_vote t.vote)) e)
+other_promise-votes t e = not-true (passes is_ok_vote t.vote) (and_parts (is_promise t) (not (passes is_ok_vote t.vote)) e).1
   where
     not-true : (b : Bool) → not b ≡ true → b ≡ false
     not-true true e = cc e

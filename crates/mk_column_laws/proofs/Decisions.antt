@@ -1,7 +1,8 @@
 -- What a ruling and a pick tell of the votes, replies and accepts.
-use Rattle.std.proofs.Common.{◌≡◌, ◌⊎◌, ◌≤◌, ℕ, zero, suc, Bool, true, false, refl, arith, inl, inr, sym, ap, ◌∙◌, List, [], ◌∷◌, Option, Some, None, subst, cond, map}
-use Rattle.std.specs.Prelude.{nat_lt, nat_le, ◌==◌, ◌&&◌, slice_set}
+use Rattle.std.proofs.Common.{◌≡◌, ◌≤◌, ℕ, Bool, true, false, refl, arith, sym, ap, ◌∙◌, List, Option, Some, None, subst, cond, map}
+use Rattle.std.specs.Prelude.{nat_lt, nat_le, ◌==◌, ◌&&◌}
 use Rattle.std.proofs.lemmas.Bool.Decides.{nat_tests}
+use Rattle.mk_lists.proofs.Tests.{list_any-from_Among}
 use Rattle.mk_txn.specs.declared.TxnId.{TxnId}
 use Rattle.mk_txn.specs.Transactions.{same_id}
 use Rattle.mk_txn.specs.declared.Vote.{Vote}
@@ -9,23 +10,22 @@ use Rattle.mk_txn.specs.declared.Accepted.{Accepted}
 use Rattle.mk_txn.specs.declared.Outcome.{Outcome}
 use Rattle.mk_txn.specs.declared.Outcome.TheVariants.{Commit, Abort}
 use Rattle.mk_txn.specs.Outcomes.{is_ok_vote, highest}
-use Rattle.mk_txn.proofs.ClashFacts.{list_any-from_member}
-use Rattle.mk_msg.specs.declared.Msg.{Msg}
-use Rattle.mk_msg.specs.declared.Body.TheVariants.{Accepted as AcceptedBody}
+use Rattle.mk_txn.proofs.IdOrder.{same_id-itself}
+use Rattle.mk_words.specs.declared.Msg.{Msg}
+use Rattle.mk_words.specs.declared.Body.TheVariants.{Accepted as AcceptedBody}
 use Rattle.mk_quorum.specs.Counts.{count_below}
 use Rattle.mk_quorum.specs.Sizes.{members, majority_of, fast_of}
-use Rattle.mk_quorum.specs.Slots.{slot, passes, count_slots, empty_slots, filled, keep_first}
-use Rattle.mk_coord.specs.declared.Ruling.{Ruling}
-use Rattle.mk_coord.specs.declared.Ruling.TheVariants.{Fast, Propose, Learned, Short, Unaccepted}
-use Rattle.mk_coord.specs.Rulings.{CoordState, by_votes, by_accepts, ruling, unless_learned, unless_proposed, count_accepts, first_refusal, is_abort_vote, any_vote}
-use Rattle.mk_takeover.specs.declared.Pick.{Pick}
-use Rattle.mk_takeover.specs.declared.Pick.TheVariants.{Known, Learned as PickLearned, Propose as PickPropose, Short as PickShort, Unaccepted as PickUnaccepted, Unclear}
-use Rattle.mk_takeover.specs.Picks.{TakeoverState, by_promises, by_accepted, pick, accepted_in, is_promise, is_ok_promise, is_other_promise, by_accepts as pick_by_accepts, unless_proposed as pick_unless_proposed, unless_learned as pick_unless_learned}
-use Rattle.mk_column.specs.Sending.{Sent, msg_of}
+use Rattle.mk_quorum.specs.Slots.{slot, passes, count_slots}
+use Rattle.mk_words.specs.declared.Ruling.{Ruling}
+use Rattle.mk_words.specs.declared.Ruling.TheVariants.{Fast, Propose, Learned, Short, Unaccepted}
+use Rattle.mk_words.specs.Rulings.{CoordState, by_votes, by_accepts, ruling, unless_learned, unless_proposed, count_accepts, first_refusal, is_abort_vote, any_vote}
+use Rattle.mk_words.specs.declared.Pick.{Pick}
+use Rattle.mk_words.specs.declared.Pick.TheVariants.{Known, Learned as PickLearned, Propose as PickPropose, Short as PickShort, Unaccepted as PickUnaccepted, Unclear}
+use Rattle.mk_words.specs.Picks.{TakeoverState, by_promises, by_accepted, pick, accepted_in, is_promise, is_ok_promise, is_other_promise, by_accepts as pick_by_accepts, unless_proposed as pick_unless_proposed, unless_learned as pick_unless_learned}
+use Rattle.mk_model.specs.Sending.{Sent, msg_of}
 use Rattle.mk_column_laws.specs.Messages.{taking_over}
-use Rattle.mk_column.specs.Deciding.{has_accepted, is_accepted_body}
+use Rattle.mk_model.specs.Deciding.{has_accepted, is_accepted_body}
 use Rattle.mk_quorum.proofs.Counting.{count_below-weaker}
-use Rattle.mk_column_laws.proofs.Lookups.{same_id-itself}
 
 -- ---- rulings
 
@@ -185,47 +185,11 @@ pick-propose f s o l p el ep e = by l p (subst (λ (x : Option Outcome). pick_un
     by None (Some x) e q = absurd ((pick_by_accepts-is f x s.accepts (PickPropose o) (subst (λ (y : Option Outcome). pick_unless_proposed f s y ≡ PickPropose o) q e)).1 o refl)
     by None None e q = (q, sym (by_promises-same f s) ∙ subst (λ (y : Option Outcome). pick_unless_proposed f s y ≡ PickPropose o) q e)
 
--- ---- slots
-
-pub slot-empty : {X : Type 0} (n r : ℕ) → slot {X = X} (empty_slots n) r ≡ None
-slot-empty zero r = refl
-slot-empty (suc n) zero = refl
-slot-empty (suc n) (suc r) = slot-empty n r
-
-slot-set : {X : Type 0} (slots : List (Option X)) (r q : ℕ) (x y : X) → slot (slice_set slots r (Some x)) q ≡ Some y → (slot slots q ≡ Some y) ⊎ ((q ≡ r) × (x ≡ y))
-slot-set [] r q x y e = inl e
-slot-set (s ∷ slots) zero zero x y e = inr (refl, cc e)
-slot-set (s ∷ slots) zero (suc q) x y e = inl e
-slot-set (s ∷ slots) (suc r) zero x y e = inl e
-slot-set (s ∷ slots) (suc r) (suc q) x y e = elim (slot-set slots r q x y e) [ inl k ↦ inl k | inr k ↦ inr (ap suc k.0, k.1) ]
-
-pub slot-filled : {X : Type 0} (slots : List (Option X)) (r q : ℕ) (x y : X) → slot (filled slots r x) q ≡ Some y → (slot slots q ≡ Some y) ⊎ ((q ≡ r) × (x ≡ y))
-slot-filled {X} slots r q x y e = by (slot slots r) e
-  where
-    by : (o : Option X) → slot (keep_first slots r x o) q ≡ Some y → (slot slots q ≡ Some y) ⊎ ((q ≡ r) × (x ≡ y))
-    by None e = slot-set slots r q x y e
-    by (Some z) e = inl e
-
--- what is there stays where another slot or the same is filled
-pub filled-keeps : {X : Type 0} (slots : List (Option X)) (r q : ℕ) (x y : X) → slot slots q ≡ Some y → slot (filled slots r x) q ≡ Some y
-filled-keeps {X} slots r q x y e = by (slot slots r) refl
-  where
-    set : (l : List (Option X)) (n k : ℕ) → slot l n ≡ None → slot l k ≡ Some y → slot (slice_set l n (Some x)) k ≡ Some y
-    set [] n k none is = is
-    set (z ∷ l) zero zero none is = absurd (cc (sym none ∙ is))
-    set (z ∷ l) zero (suc k) none is = is
-    set (z ∷ l) (suc n) zero none is = is
-    set (z ∷ l) (suc n) (suc k) none is = set l n k none is
-
-    by : (o : Option X) → slot slots r ≡ o → slot (keep_first slots r x o) q ≡ Some y
-    by None none = set slots r q none e
-    by (Some z) there = e
-
 -- ---- accepts
 
 pub accept_counted : (link : List Msg) (id : TxnId) (v r : ℕ) → Sent link id r v AcceptedBody → has_accepted link id v r ≡ true
 accept_counted link id v r s =
-    list_any-from_member (λ msg. is_accepted_body msg.body && same_id msg.id id && msg.view == v && msg.replica == r) link (msg_of s.0 id r v AcceptedBody) s.1
+    list_any-from_Among (λ msg. is_accepted_body msg.body && same_id msg.id id && msg.view == v && msg.replica == r) link (msg_of s.0 id r v AcceptedBody) s.1
     (let k = same_id-itself id in grind (arith, nat_tests, k))
 
 -- where a majority's accepts were taken, a majority accepted

@@ -6,14 +6,14 @@ use Rattle.mk_txn.specs.declared.Stamp.{Stamp as StampType}
 use Rattle.mk_txn.specs.declared.Value.TheVariants.{Number}
 use Rattle.mk_txn.specs.declared.Vote.TheVariants.{Ok as VoteOk}
 use Rattle.mk_txn.specs.declared.Outcome.TheVariants.{Commit}
-use Rattle.mk_cell.specs.declared.Act.TheVariants.{CheckWrite, CommitWrite}
-use Rattle.mk_cell.specs.declared.Answer.TheVariants.{Okay, Done}
-use Rattle.mk_trim.specs.KeptOutcomes.{nothing_kept}
-use Rattle.mk_merge.specs.declared.Phase.TheVariants.{Serving}
-use Rattle.mk_merge.specs.declared.ReplicaView.{ReplicaView}
-use Rattle.mk_column.specs.declared.Step.TheVariants.{Begin, Stamp, Validate, Take, Key, Rule}
-use Rattle.mk_column.specs.ColumnState.Way.{ByVotes, ByFinishing}
-use Rattle.mk_column.specs.Learnings.{learning}
+use Rattle.mk_words.specs.declared.Act.TheVariants.{CheckWrite, CommitWrite}
+use Rattle.mk_words.specs.declared.Answer.TheVariants.{Okay, Done}
+use Rattle.mk_words.specs.KeptOutcomes.{nothing_kept}
+use Rattle.mk_words.specs.declared.Phase.TheVariants.{Serving}
+use Rattle.mk_trim.specs.declared.ReplicaView.{ReplicaView}
+use Rattle.mk_words.specs.declared.Step.TheVariants.{Begin, Stamp, Validate, Take, Key, Rule}
+use Rattle.mk_model.specs.ColumnState.Way.{ByVotes, ByFinishing}
+use Rattle.mk_model.specs.Learnings.{learning}
 use Rattle.mk_column_laws.specs.Moments.{Moment, Event, first_moment, moment_through}
 use Rattle.mk_column_laws.specs.Moments.Event.{NewRound, Doing}
 use Rattle.mk_column_laws.specs.FirstEpoch.{EachInFirstEpoch}

@@ -2,23 +2,25 @@
 use Rattle.std.proofs.Common.{◌≡◌, ◌≤◌, ◌∙◌, ℕ, true, false, refl, arith, inl, inr, sym, ap, subst, Option, Some, None}
 use Rattle.std.specs.Prelude.{is_some}
 use Rattle.std.specs.Option.{option_or}
+use Rattle.std.proofs.lemmas.Bool.{cond_both}
+use Rattle.std.proofs.lemmas.Option.{none-some, same_Some}
 use Rattle.mk_txn.specs.declared.TxnId.{TxnId}
 use Rattle.mk_txn.specs.declared.Vote.{Vote}
 use Rattle.mk_txn.specs.declared.Accepted.{Accepted}
 use Rattle.mk_txn.specs.declared.Outcome.{Outcome}
 use Rattle.mk_txn.specs.Transactions.{Transaction}
-use Rattle.mk_msg.specs.declared.Body.{Body}
-use Rattle.mk_msg.specs.declared.Body.TheVariants.{Voted, Accepted as AcceptedBody, Told as ToldBody, Moved as MovedBody}
+use Rattle.mk_words.specs.declared.Body.{Body}
+use Rattle.mk_words.specs.declared.Body.TheVariants.{Voted, Accepted as AcceptedBody, Told as ToldBody, Moved as MovedBody}
 use Rattle.mk_quorum.specs.Slots.{slot}
-use Rattle.mk_valid.specs.Validations.{ValidationState}
-use Rattle.mk_coord.specs.Rulings.{CoordState}
-use Rattle.mk_takeover.specs.Picks.{TakeoverState}
-use Rattle.mk_column.specs.ColumnState.{ColumnState, AttemptState, TakeoverOf, attempt_of, takeover_of}
-use Rattle.mk_column.specs.ColumnState.Work.{Validating}
-use Rattle.mk_column.specs.Answers.{coord_answered, state_answered, moved_outcome}
-use Rattle.mk_column.proofs.Frames.{either_way}
+use Rattle.mk_quorum.proofs.Slots.{filled-keeps}
+use Rattle.mk_words.specs.Validations.{ValidationState}
+use Rattle.mk_words.specs.Rulings.{CoordState}
+use Rattle.mk_words.specs.Picks.{TakeoverState}
+use Rattle.mk_model.specs.ColumnState.{ColumnState, AttemptState, TakeoverOf, attempt_of, takeover_of}
+use Rattle.mk_model.specs.ColumnState.Work.{Validating}
+use Rattle.mk_model.specs.Answers.{coord_answered, state_answered, moved_outcome}
 use Rattle.mk_column_laws.specs.Moments.{Moment, PastEntry, Taught}
-use Rattle.mk_column.specs.Sending.{msg_of}
+use Rattle.mk_model.specs.Sending.{msg_of}
 use Rattle.mk_column_laws.specs.Moves.{Moves, AttemptMove, AttemptChange, TakeoverMove, TakeoverChange, EntryMove, WorkMove, Newborn, past_opened}
 use Rattle.mk_column_laws.specs.Moves.AttemptMove.{AttemptStays, AttemptBegins, AttemptChanges}
 use Rattle.mk_column_laws.specs.Moves.AttemptChange.{EndsReading, Reads, Stamps, RulesFast, RulesLearned, Proposes, Hears, Stops}
@@ -28,8 +30,7 @@ use Rattle.mk_column_laws.specs.Moves.EntryMove.{EntryStays, EntryOpens, EntryVo
 use Rattle.mk_column_laws.specs.Moves.WorkMove.{WorkRests, WorkFetches, WorkValidates, WorkGoesOn, WorkEnds, WorkFinishes}
 use Rattle.mk_column_laws.specs.Moves.Newborn.{ValidateSent, AskSent, ProposalSent, FastSent, LearnedSent, KnownSent, PickSent, VoteSent, AcceptedSent, FinalToldSent, PromiseSent, MovedSent}
 use Rattle.mk_column_laws.specs.Facts.{Facts, AttemptFacts, Grows, AttemptGrows, TakeoverGrows, EntryGrows}
-use Rattle.mk_column_laws.proofs.Lookups.{some_same}
-use Rattle.mk_column_laws.proofs.Decisions.{ruling-propose, pick-propose, filled-keeps}
+use Rattle.mk_column_laws.proofs.Decisions.{ruling-propose, pick-propose}
 
 -- ---- attempts
 
@@ -47,9 +48,6 @@ AttemptGrows-same a =
       no_more = λ _. refl;
       votes = λ r v e. e;
     }
-
-pub none_some : {X : Type 0} (o : Option X) (x : X) → o ≡ None → o ≡ Some x → ⊥
-none_some o x n s = cc (n, s)
 
 pub none_there : {X : Type 0} (o : Option X) → o ≡ None → is_some o ≡ true → ⊥
 none_there o n s = let k : is_some o ≡ false = ap is_some n in cc (k, s)
@@ -72,15 +70,15 @@ change_grows : (taught : Taught) (m : Moment) (next : ColumnState) (id : TxnId) 
 change_grows taught m next id a b f (EndsReading e) = subst (AttemptGrows a) (sym e) (record { same_id = refl; same_epoch = refl; same_replica = refl; same_unread = refl; txn = λ t k. k; stopped = λ k. k; proposed = λ o k. k; learned = λ o k. k; no_more = λ _. refl; votes = λ r v k. k })
 change_grows taught m next id a b f (Reads replica key answer w e) = subst (AttemptGrows a) (sym e) (record { same_id = refl; same_epoch = refl; same_replica = refl; same_unread = refl; txn = λ t k. k; stopped = λ k. k; proposed = λ o k. k; learned = λ o k. k; no_more = λ _. refl; votes = λ r v k. k })
 change_grows taught m next id a b f (Stamps client clock stamp writes reading fit some c n e) = subst (AttemptGrows a) (sym e)
-    (record { same_id = refl; same_epoch = refl; same_replica = refl; same_unread = refl; txn = λ t k. absurd (none_some a.txn t (f.unstamped reading) k); stopped = λ k. k; proposed = λ o k. k; learned = λ o k. k; no_more = λ _. refl; votes = λ r v k. k })
+    (record { same_id = refl; same_epoch = refl; same_replica = refl; same_unread = refl; txn = λ t k. absurd (none-some t (sym (f.unstamped reading) ∙ k)); stopped = λ k. k; proposed = λ o k. k; learned = λ o k. k; no_more = λ _. refl; votes = λ r v k. k })
 change_grows taught m next id a b f (RulesFast o none is e l) = subst (AttemptGrows a) (sym e)
-    (record { same_id = refl; same_epoch = refl; same_replica = refl; same_unread = refl; txn = λ t k. k; stopped = λ k. k; proposed = λ x k. k; learned = λ x k. absurd (none_some a.coord.learned x none k); no_more = λ _. refl; votes = λ r v k. k })
+    (record { same_id = refl; same_epoch = refl; same_replica = refl; same_unread = refl; txn = λ t k. k; stopped = λ k. k; proposed = λ x k. k; learned = λ x k. absurd (none-some x (sym none ∙ k)); no_more = λ _. refl; votes = λ r v k. k })
 change_grows taught m next id a b f (RulesLearned o none is e) = subst (AttemptGrows a) (sym e)
-    (record { same_id = refl; same_epoch = refl; same_replica = refl; same_unread = refl; txn = λ t k. k; stopped = λ k. k; proposed = λ x k. k; learned = λ x k. absurd (none_some a.coord.learned x none k); no_more = λ _. refl; votes = λ r v k. k })
+    (record { same_id = refl; same_epoch = refl; same_replica = refl; same_unread = refl; txn = λ t k. k; stopped = λ k. k; proposed = λ x k. k; learned = λ x k. absurd (none-some x (sym none ∙ k)); no_more = λ _. refl; votes = λ r v k. k })
 change_grows taught m next id a b f (Proposes o none is e p) =
     let unproposed = (ruling-propose m.round.faults a.coord o a.coord.learned a.coord.proposed refl refl is).0 in
     subst (AttemptGrows a) (sym e)
-    (record { same_id = refl; same_epoch = refl; same_replica = refl; same_unread = refl; txn = λ t k. k; stopped = λ k. k; proposed = λ x k. absurd (none_some a.coord.proposed x unproposed k); learned = λ x k. k; no_more = λ k. absurd (none_there a.coord.learned none k); votes = λ r v k. k })
+    (record { same_id = refl; same_epoch = refl; same_replica = refl; same_unread = refl; txn = λ t k. k; stopped = λ k. k; proposed = λ x k. absurd (none-some x (sym unproposed ∙ k)); learned = λ x k. k; no_more = λ k. absurd (none_there a.coord.learned none k); votes = λ r v k. k })
 change_grows taught m next id a b f (Hears msg among same view none e) = subst (AttemptGrows a) (sym e)
     (record {
       same_id = refl;
@@ -90,7 +88,7 @@ change_grows taught m next id a b f (Hears msg among same view none e) = subst (
       txn = λ t k. k;
       stopped = λ k. k;
       proposed = λ x k. answered_proposed msg.replica msg.body a.coord ∙ k;
-      learned = λ x k. absurd (none_some a.coord.learned x none k);
+      learned = λ x k. absurd (none-some x (sym none ∙ k));
       no_more = λ _. answered_proposed msg.replica msg.body a.coord;
       votes = λ r v k. answered_votes msg.replica msg.body a.coord r v k;
     })
@@ -115,12 +113,11 @@ answered_state r _ t o = (λ e. e, λ e. e)
 takeover_grows : (m : Moment) (next : ColumnState) (id : TxnId) (view : ℕ) (a b : TakeoverOf) → TakeoverChange m next id view a b → TakeoverGrows a b
 takeover_grows m next id view a b (Picks o is e p) =
     let unproposed = (pick-propose m.round.faults a.state o a.state.learned a.state.proposed refl refl is).0 in
-    subst (TakeoverGrows a) (sym e) (record { closed = λ k. k; proposed = λ x k. absurd (none_some a.state.proposed x unproposed k); learned = λ x k. k })
+    subst (TakeoverGrows a) (sym e) (record { closed = λ k. k; proposed = λ x k. absurd (none-some x (sym unproposed ∙ k)); learned = λ x k. k })
 takeover_grows m next id view a b (Closes e) = subst (TakeoverGrows a) (sym e) (record { closed = λ _. refl; proposed = λ x k. k; learned = λ x k. k })
 takeover_grows m next id view a b (TakeoverHears msg among same v e) =
     subst (TakeoverGrows a) (sym e)
-    (either_way (TakeoverGrows a) a.closed a (record a { state = state_answered msg.replica msg.body a.state }) (λ _. TakeoverGrows-same a)
-    (λ _. record { closed = λ k. k; proposed = λ x k. (answered_state msg.replica msg.body a.state x).0 k; learned = λ x k. (answered_state msg.replica msg.body a.state x).1 k }))
+    (cond_both a.closed a (record a { state = state_answered msg.replica msg.body a.state }) (TakeoverGrows a) (λ _. TakeoverGrows-same a) (λ _. record { closed = λ k. k; proposed = λ x k. (answered_state msg.replica msg.body a.state x).0 k; learned = λ x k. (answered_state msg.replica msg.body a.state x).1 k }))
 
 -- ---- entries
 
@@ -135,25 +132,25 @@ module _ (taught : Taught) (m next : Moment) (h : Facts taught m) (moves : Moves
   entry_grows : (r : ℕ) (id : TxnId) (old new : Option PastEntry) → EntryMove m next r id old new → (a : PastEntry) → ((x : Accepted) → a.accepted ≡ Some x → x.view ≤ a.view) → old ≡ Some a →
       (b : PastEntry) × (new ≡ Some b) × EntryGrows a b
   entry_grows r id old new (EntryStays same) a low e = (a, same ∙ e, EntryGrows-same a)
-  entry_grows r id old new (EntryOpens txn epoch s none k w1 w2) a low e = absurd (none_some old a none e)
+  entry_grows r id old new (EntryOpens txn epoch s none k w1 w2) a low e = absurd (none-some a (sym none ∙ e))
   entry_grows r id old new (EntryVotes txn epoch state s was w1 own w2 vote answer v n k) a low e =
-      let same = some_same (past_opened txn) a (sym was ∙ e) in
+      let same = same_Some (past_opened txn) a (sym was ∙ e) in
       subst (λ (x : PastEntry). (b : PastEntry) × (new ≡ Some b) × EntryGrows x b) same
       (_, k, record { same_txn = refl; view = omega arith; vote = λ x q. absurd (cc q); accepted = λ x q. absurd (cc q); final = λ l q. absurd (cc q) })
   entry_grows r id None new (EntryPromises txn view s sent last le k w1 w2) a low e = absurd (cc e)
   entry_grows r id (Some was) new (EntryPromises txn view s sent last le k w1 w2) a low e =
-      subst (λ (x : PastEntry). (b : PastEntry) × (new ≡ Some b) × EntryGrows x b) (some_same was a e)
-      (_, k, record { same_txn = refl; view = le; vote = λ x q. q; accepted = λ x q. (x, q, omega arith); final = λ l q. absurd (none_some was.last l last q) })
+      subst (λ (x : PastEntry). (b : PastEntry) × (new ≡ Some b) × EntryGrows x b) (same_Some was a e)
+      (_, k, record { same_txn = refl; view = le; vote = λ x q. q; accepted = λ x q. (x, q, omega arith); final = λ l q. absurd (none-some l (sym last ∙ q)) })
   entry_grows r id None new (EntryAccepts txn view o s sent last le k w1 w2) a low e = absurd (cc e)
   entry_grows r id (Some was) new (EntryAccepts txn view o s sent last le k w1 w2) a low e =
-      let same = some_same was a e in
+      let same = same_Some was a e in
       let below : (x : Accepted) → was.accepted ≡ Some x → x.view ≤ was.view = subst (λ (y : PastEntry). (x : Accepted) → y.accepted ≡ Some x → x.view ≤ y.view) (sym same) low in
       subst (λ (x : PastEntry). (b : PastEntry) × (new ≡ Some b) × EntryGrows x b) same
-      (_, k, record { same_txn = refl; view = le; vote = λ x q. q; accepted = λ x q. (record { view = view; outcome = o }, refl, omega (arith, below x q, le)); final = λ l q. absurd (none_some was.last l last q) })
+      (_, k, record { same_txn = refl; view = le; vote = λ x q. q; accepted = λ x q. (record { view = view; outcome = o }, refl, omega (arith, below x q, le)); final = λ l q. absurd (none-some l (sym last ∙ q)) })
   entry_grows r id None new (EntryFinishes txn view o s sent last k w1) a low e = absurd (cc e)
   entry_grows r id (Some was) new (EntryFinishes txn view o s sent last k w1) a low e =
-      subst (λ (x : PastEntry). (b : PastEntry) × (new ≡ Some b) × EntryGrows x b) (some_same was a e)
-      (_, k, record { same_txn = refl; view = omega arith; vote = λ x q. q; accepted = λ x q. (x, q, omega arith); final = λ l q. absurd (none_some was.last l last q) })
+      subst (λ (x : PastEntry). (b : PastEntry) × (new ≡ Some b) × EntryGrows x b) (same_Some was a e)
+      (_, k, record { same_txn = refl; view = omega arith; vote = λ x q. q; accepted = λ x q. (x, q, omega arith); final = λ l q. absurd (none-some l (sym last ∙ q)) })
 
   -- ---- sealed entries
 
@@ -161,14 +158,14 @@ module _ (taught : Taught) (m next : Moment) (h : Facts taught m) (moves : Moves
       ((txn : Transaction) (epoch : ℕ) (state : ValidationState) → m.column.work ≡ Validating txn r epoch state → txn.id ≡ id → ⊥) →
       (b : PastEntry) × (new ≡ Some b) × (b.vote ≡ None)
   no_vote_move r id old new (EntryStays same) a e n rest = (a, same ∙ e, n)
-  no_vote_move r id old new (EntryOpens txn epoch s none k w1 w2) a e n rest = absurd (none_some old a none e)
+  no_vote_move r id old new (EntryOpens txn epoch s none k w1 w2) a e n rest = absurd (none-some a (sym none ∙ e))
   no_vote_move r id old new (EntryVotes txn epoch state s was w1 own w2 vote answer v q k) a e n rest = absurd (rest txn epoch state w1 own)
   no_vote_move r id None new (EntryPromises txn view s sent last le k w1 w2) a e n rest = absurd (cc e)
-  no_vote_move r id (Some was) new (EntryPromises txn view s sent last le k w1 w2) a e n rest = (_, k, ap (λ (x : PastEntry). x.vote) (some_same was a e) ∙ n)
+  no_vote_move r id (Some was) new (EntryPromises txn view s sent last le k w1 w2) a e n rest = (_, k, ap (λ (x : PastEntry). x.vote) (same_Some was a e) ∙ n)
   no_vote_move r id None new (EntryAccepts txn view o s sent last le k w1 w2) a e n rest = absurd (cc e)
-  no_vote_move r id (Some was) new (EntryAccepts txn view o s sent last le k w1 w2) a e n rest = (_, k, ap (λ (x : PastEntry). x.vote) (some_same was a e) ∙ n)
+  no_vote_move r id (Some was) new (EntryAccepts txn view o s sent last le k w1 w2) a e n rest = (_, k, ap (λ (x : PastEntry). x.vote) (same_Some was a e) ∙ n)
   no_vote_move r id None new (EntryFinishes txn view o s sent last k w1) a e n rest = absurd (cc e)
-  no_vote_move r id (Some was) new (EntryFinishes txn view o s sent last k w1) a e n rest = (_, k, ap (λ (x : PastEntry). x.vote) (some_same was a e) ∙ n)
+  no_vote_move r id (Some was) new (EntryFinishes txn view o s sent last k w1) a e n rest = (_, k, ap (λ (x : PastEntry). x.vote) (same_Some was a e) ∙ n)
 
   same_validation : (t u : Transaction) (q r a b : ℕ) (s z : ValidationState) → Validating t q a s ≡ Validating u r b z → (t ≡ u) × (q ≡ r)
   same_validation t u q r a b s z e = (cc e, cc e)
@@ -187,7 +184,7 @@ module _ (taught : Taught) (m next : Moment) (h : Facts taught m) (moves : Moves
       let k = same_validation t txn q r ep epoch _ state (sym new ∙ w) in
       let names : t.id ≡ id = ap (λ (x : Transaction). x.id) k.0 ∙ own in
       let place : m.past.entries q t.id ≡ m.past.entries r id = λ i. m.past.entries (k.1 i) (names i) in
-      none_some (m.past.entries r id) e (sym place ∙ none) found
+      none-some e (sym (sym place ∙ none) ∙ found)
 
   -- ---- accepts
 
@@ -209,16 +206,16 @@ module _ (taught : Taught) (m next : Moment) (h : Facts taught m) (moves : Moves
 
   attempt_grows : (id : TxnId) (old new : Option AttemptState) → AttemptMove m next.column id old new → (a : AttemptState) → AttemptFacts taught m id a → old ≡ Some a → (b : AttemptState) × (new ≡ Some b) × AttemptGrows a b
   attempt_grows id old new (AttemptStays same) a f e = (a, same ∙ e, AttemptGrows-same a)
-  attempt_grows id old new (AttemptBegins x none n own coord txn reads home) a f e = absurd (none_some old a none e)
+  attempt_grows id old new (AttemptBegins x none n own coord txn reads home) a f e = absurd (none-some a (sym none ∙ e))
   attempt_grows id old new (AttemptChanges x y is n change) a f e =
-      let same = some_same x a (sym is ∙ e) in
+      let same = same_Some x a (sym is ∙ e) in
       (y, n, change_grows taught m next.column id a y f (subst (λ (z : AttemptState). AttemptChange m next.column id z y) same change))
 
   takeover_move_grows : (id : TxnId) (view : ℕ) (old new : Option TakeoverOf) → TakeoverMove m next.column id view old new → (a : TakeoverOf) → old ≡ Some a → (b : TakeoverOf) × (new ≡ Some b) × TakeoverGrows a b
   takeover_move_grows id view old new (TakeoverStays same) a e = (a, same ∙ e, TakeoverGrows-same a)
-  takeover_move_grows id view old new (TakeoverBegins x none found stamped pos n) a e = absurd (none_some old a none e)
+  takeover_move_grows id view old new (TakeoverBegins x none found stamped pos n) a e = absurd (none-some a (sym none ∙ e))
   takeover_move_grows id view old new (TakeoverChanges x y is n change) a e =
-      (y, n, subst (λ (z : TakeoverOf). TakeoverGrows z y) (some_same x a (sym is ∙ e)) (takeover_grows m next.column id view x y change))
+      (y, n, subst (λ (z : TakeoverOf). TakeoverGrows z y) (same_Some x a (sym is ∙ e)) (takeover_grows m next.column id view x y change))
 
   pub grows : Grows m next
   grows =

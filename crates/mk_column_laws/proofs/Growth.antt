@@ -2,7 +2,7 @@
 use Rattle.std.proofs.Common.{◌≡◌, ◌∙◌, true, false, refl, arith, inl, inr, ap, List, [], ◌∷◌, Option, Some, None}
 use Rattle.std.specs.Prelude.{is_some}
 use Rattle.mk_txn.specs.declared.Outcome.{Outcome}
-use Rattle.mk_column.specs.ColumnState.{AttemptState, TakeoverOf}
+use Rattle.mk_model.specs.ColumnState.{AttemptState, TakeoverOf}
 use Rattle.mk_column_laws.specs.Moments.{Moment, PastEntry, Taught, StaysTaught, Event, EachHappens, moment_through, after_event}
 use Rattle.mk_column_laws.specs.Facts.{Facts, Grows, AttemptGrows, TakeoverGrows, EntryGrows}
 use Rattle.mk_column_laws.proofs.Growing.{grows, AttemptGrows-same, TakeoverGrows-same, EntryGrows-same}

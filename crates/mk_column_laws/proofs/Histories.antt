@@ -2,14 +2,12 @@
 use Rattle.std.proofs.Common.{◌≡◌, ◌∙◌, ℕ, refl, ap, inl, inr, Option, Some, None}
 use Rattle.std.specs.Prelude.{option_map}
 use Rattle.mk_txn.specs.declared.TxnId.{TxnId}
-use Rattle.mk_txn.specs.declared.Vote.{Vote}
 use Rattle.mk_txn.specs.declared.Outcome.{Outcome}
 use Rattle.mk_txn.specs.Transactions.{Transaction}
-use Rattle.mk_record.specs.Entries.{opened, entry_of, with_vote, with_promise, with_accepted, with_last}
-use Rattle.mk_column.specs.ColumnState.{entries_at}
-use Rattle.mk_column.specs.Replicas.{entry_or_opened}
+use Rattle.mk_words.specs.Entries.{entry_of, with_promise, with_accepted, with_last}
+use Rattle.mk_model.specs.ColumnState.{entries_at}
 use Rattle.mk_column_laws.specs.Moments.{Moment, PastEntry, dated, past_vote, past_last, remembered, remembered_from}
-use Rattle.mk_column_laws.specs.Moves.{past_opened, past_or_opened, undated, entry_of_past, IsMatched}
+use Rattle.mk_column_laws.specs.Moves.{past_or_opened, undated, entry_of_past, IsMatched}
 
 dated-same : {X : Type 0} (now : ℕ) (o : Option (X × ℕ)) → dated now o (undated o) ≡ o
 dated-same now (Some x) = refl
@@ -31,11 +29,6 @@ pub matched-stays : (m : Moment) (r : ℕ) (id : TxnId) → IsMatched m r id →
 matched-stays m r id (inl e) = ap (remembered m.past.now (m.past.entries r id)) e ∙ remembered-stays m.past.now (m.past.entries r id)
 matched-stays m r id (inr e) = ap (remembered m.past.now (m.past.entries r id)) e.0
 
--- the entry that is there or opened, in the record and as it is remembered
-pub prepared : (txn : Transaction) (old : Option PastEntry) → entry_or_opened txn (option_map entry_of_past old) ≡ entry_of_past (past_or_opened txn old)
-prepared txn None = refl
-prepared txn (Some past) = refl
-
 -- an opened entry has no past of its own
 there-vote : (txn : Transaction) (old : Option PastEntry) → past_vote old ≡ (past_or_opened txn old).vote
 there-vote txn None = refl
@@ -51,14 +44,6 @@ module _ (now : ℕ) (txn : Transaction) (old : Option PastEntry) where
 
   last_kept : dated now (past_last old) (undated (past_or_opened txn old).last) ≡ (past_or_opened txn old).last
   last_kept = ap (λ o. dated now o (undated (past_or_opened txn old).last)) (there-last txn old) ∙ dated-same now (past_or_opened txn old).last
-
-  pub remembered-opened : remembered_from now None (opened txn) ≡ past_opened txn
-  remembered-opened = refl
-
-  pub remembered-there : remembered_from now old (entry_of_past (past_or_opened txn old)) ≡ past_or_opened txn old
-  remembered-there =
-      let there = past_or_opened txn old in
-      λ i. record { txn = there.txn; view = there.view; vote = vote_kept i; accepted = there.accepted; last = last_kept i }
 
   pub remembered-promise : (view : ℕ) →
       (let there = past_or_opened txn old in remembered_from now old (with_promise view (entry_of_past there)) ≡ record there { view = view })
@@ -79,12 +64,6 @@ module _ (now : ℕ) (txn : Transaction) (old : Option PastEntry) where
       let there = past_or_opened txn old in
       let l : dated now (past_last old) (Some outcome) ≡ Some (outcome, now) = ap (λ o. dated now o (Some outcome)) (there-last txn old ∙ none) in
       λ i. record { txn = there.txn; view = there.view; vote = vote_kept i; accepted = there.accepted; last = l i }
-
--- the vote of a validation
-pub remembered-vote : (now : ℕ) (txn : Transaction) (vote : Vote) →
-    (let opened_one = past_opened txn in
-    remembered_from now (Some opened_one) (with_vote vote (entry_of_past opened_one)) ≡ record opened_one { vote = Some (vote, now) })
-remembered-vote now txn vote = refl
 
 pub undated-none : {X : Type 0} (o : Option (X × ℕ)) → undated o ≡ None → o ≡ None
 undated-none None e = refl

@@ -2,18 +2,21 @@
 use Rattle.std.proofs.Common.{◌≡◌, ◌⊎◌, ◌<◌, ◌≤◌, ◌∙◌, ◌+◌, ◌^◌, ℕ, Bool, true, false, refl, arith, inl, inr, sym, ap, subst, List, [], ◌∷◌, ◌++◌, Option, Some, None, max}
 use Rattle.std.specs.Prelude.{option_map, ◌==◌, nat_lt, if◌then◌else◌}
 use Rattle.std.proofs.lemmas.Bool.Decides.{nat_tests}
+use Rattle.std.proofs.lemmas.Option.{none-some, same_Some}
+use Rattle.std.proofs.lemmas.Bool.{eqb-true}
 use Rattle.mk_lists.specs.Changed.{change}
+use Rattle.mk_lists.proofs.Lookups.{find-append_some, find-passes, find_push, find_push_cases}
+use Rattle.mk_lists.proofs.Changes.{find-change}
 use Rattle.mk_txn.specs.declared.TxnId.{TxnId}
 use Rattle.mk_txn.specs.declared.Stamp.{Stamp as StampType}
 use Rattle.mk_txn.specs.declared.ReadItem.{ReadItem}
 use Rattle.mk_txn.specs.declared.WriteItem.{WriteItem}
 use Rattle.mk_txn.specs.Stamps.{next_stamp_of, fresh_time, time_above_reads}
 use Rattle.mk_txn.specs.Transactions.{Transaction, same_id, is_above_reads}
-use Rattle.mk_column.specs.ColumnState.{ClientState, AttemptState, is_client, is_attempt}
-use Rattle.mk_column.specs.Steps.{next_id, begun, stamped_txn, with_txn, with_last_time}
+use Rattle.mk_txn.proofs.IdOrder.{same_id-apart, same_id-itself, same_id-tells}
+use Rattle.mk_model.specs.ColumnState.{ClientState, AttemptState, is_client, is_attempt}
+use Rattle.mk_model.specs.Steps.{next_id, begun, stamped_txn, with_txn, with_last_time}
 use Rattle.mk_column_laws.specs.Identity.{Identity, IsClients, IsStampedBy, client_in, attempt_in}
-use Rattle.mk_column_laws.proofs.Lookups.{same_id-tells, same_id-itself, some_same, find-passes, find-change, find-push, find-push_kept, find-pushed, eqb-tells, apart_ids}
-use Rattle.mk_column_laws.proofs.Growing.{none_some}
 use Rattle.mk_column_laws.proofs.Tables as tables
 
 -- ---- keys of tables
@@ -22,7 +25,7 @@ client_decide : (k n : ℕ) → (n ≡ k) ⊎ ((c : ClientState) → is_client k
 client_decide k n = by (n == k) refl
   where
     by : (b : Bool) → (n == k) ≡ b → (n ≡ k) ⊎ ((c : ClientState) → is_client k c ≡ true → is_client n c ≡ false)
-    by true e = inl (eqb-tells n k e)
+    by true e = inl (eqb-true n k e)
     by false e = inr (λ c t. grind (arith, nat_tests, e, t))
 
 attempt_decide : (k n : TxnId) → (n ≡ k) ⊎ ((a : AttemptState) → is_attempt k a ≡ true → is_attempt n a ≡ false)
@@ -30,10 +33,10 @@ attempt_decide k n = by (same_id k n) refl
   where
     by : (b : Bool) → same_id k n ≡ b → (n ≡ k) ⊎ ((a : AttemptState) → is_attempt k a ≡ true → is_attempt n a ≡ false)
     by true e = inl (sym (same_id-tells k n e))
-    by false e = inr (λ a t. apart_ids a.id k n e t)
+    by false e = inr (λ a t. same_id-apart a.id k n e t)
 
 pub number_of : (clients : List ClientState) (n : ℕ) (c : ClientState) → client_in clients n ≡ Some c → c.number ≡ n
-number_of clients n c e = eqb-tells c.number n (find-passes (is_client n) clients c e)
+number_of clients n c e = eqb-true c.number n (find-passes (is_client n) clients c e)
 
 module _ (number : ℕ) (f : ClientState → ClientState) (same : (c : ClientState) → (f c).number ≡ c.number) where
   pub client_kept : (clients : List ClientState) (n : ℕ) (c : ClientState) → client_in clients n ≡ Some c →
@@ -144,12 +147,12 @@ module _ (clients : List ClientState) (attempts : List AttemptState) (h : Identi
         by None e = e
         by (Some a) e =
             let k = h.attempts (next_id c) a e in
-            let same : k.client ≡ c = some_same k.client c (sym k.found ∙ found) in
+            let same : k.client ≡ c = same_Some k.client c (sym k.found ∙ found) in
             absurd (let less : c.next_seq < c.next_seq = subst (λ (x : ClientState). c.next_seq < x.next_seq) same k.begun in omega (arith, less))
 
     -- an attempt that is found afterwards
     was : (id : TxnId) (b : AttemptState) → attempt_in (attempts ++ new ∷ []) id ≡ Some b → (attempt_in attempts id ≡ Some b) ⊎ ((id ≡ next_id c) × (b ≡ new))
-    was id b e = elim (find-push (is_attempt id) attempts new b e) [
+    was id b e = elim (find_push_cases (is_attempt id) attempts new b e) [
       | inl old ↦ inl old
       | inr k ↦ inr (sym (same_id-tells new.id id k.1.1) ∙ named, sym k.1.0)
     ]
@@ -173,14 +176,14 @@ module _ (clients : List ClientState) (attempts : List AttemptState) (h : Identi
             | inl old ↦ (let k = h.stamps id b t old s in
                 let d = kept_client id.client k.client k.found in
                 record { client = d.0; found = d.1; of_client = k.of_client; from_one = k.from_one; not_above = omega (arith, k.not_above, d.2.0); above_reads = k.above_reads })
-            | inr k ↦ absurd (none_some b.txn t (ap (λ (x : AttemptState). x.txn) k.1 ∙ unstamped) s)
+            | inr k ↦ absurd (none-some t (sym (ap (λ (x : AttemptState). x.txn) k.1 ∙ unstamped) ∙ s))
           ];
           rise = λ id other a b t u e f s r same less. elim (was id a e) [
             | inl old ↦ elim (was other b f) [
               | inl old' ↦ h.rise id other a b t u old old' s r same less
-              | inr k ↦ absurd (none_some b.txn u (ap (λ (x : AttemptState). x.txn) k.1 ∙ unstamped) r)
+              | inr k ↦ absurd (none-some u (sym (ap (λ (x : AttemptState). x.txn) k.1 ∙ unstamped) ∙ r))
             ]
-            | inr k ↦ absurd (none_some a.txn t (ap (λ (x : AttemptState). x.txn) k.1 ∙ unstamped) s)
+            | inr k ↦ absurd (none-some t (sym (ap (λ (x : AttemptState). x.txn) k.1 ∙ unstamped) ∙ s))
           ];
         }
       where
@@ -215,22 +218,22 @@ module _ (clients : List ClientState) (attempts : List AttemptState) (h : Identi
         found_there n seq x d e (inl same) one less =
             let k = ap (λ (y : ClientState). y.next_seq) same in
             let a = h.all_there n seq x e one (omega (arith, less, k)) in
-            (a.0, find-push_kept (is_attempt (record { client = n; seq = seq })) attempts new a.0 a.1)
+            (a.0, find-append_some (is_attempt (record { client = n; seq = seq })) attempts (new ∷ []) a.0 a.1)
         found_there n seq x d e (inr same) one less = by (same_or_other seq c.next_seq)
           where
             is_c : x ≡ c
-            is_c = some_same x c (sym e ∙ (λ i. client_in clients (same.0 i)) ∙ found)
+            is_c = same_Some x c (sym e ∙ (λ i. client_in clients (same.0 i)) ∙ found)
 
             by : (seq ≡ c.next_seq) ⊎ (seq ≡ c.next_seq → ⊥) → (a : AttemptState) × (attempt_in (attempts ++ new ∷ []) (record { client = n; seq = seq }) ≡ Some a)
             by (inl last) =
                 let names : next_id c ≡ record { client = n; seq = seq } = λ i. record { client = sym same.0 i; seq = sym last i } in
                 let passes : is_attempt (next_id c) new ≡ true = subst (λ (y : TxnId). same_id y (next_id c) ≡ true) (sym named) (same_id-itself (next_id c)) in
-                (new, subst (λ (y : TxnId). attempt_in (attempts ++ new ∷ []) y ≡ Some new) names (find-pushed (is_attempt (next_id c)) attempts new was_none passes))
+                (new, subst (λ (y : TxnId). attempt_in (attempts ++ new ∷ []) y ≡ Some new) names (find_push (is_attempt (next_id c)) attempts new was_none passes))
             by (inr not_last) =
                 let k = ap (λ (y : ClientState). y.next_seq) same.1 in
                 let l = ap (λ (y : ClientState). y.next_seq) is_c in
                 let a = h.all_there n seq x e one (below seq x.next_seq (omega (arith, less, k)) (λ q. not_last (q ∙ l))) in
-                (a.0, find-push_kept (is_attempt (record { client = n; seq = seq })) attempts new a.0 a.1)
+                (a.0, find-append_some (is_attempt (record { client = n; seq = seq })) attempts (new ∷ []) a.0 a.1)
               where
                 below : (s t : ℕ) → s < t + 1 → (s ≡ t → ⊥) → s < t
                 below s t lt ne = grind arith
@@ -249,7 +252,7 @@ module _ (clients : List ClientState) (attempts : List AttemptState) (h : Identi
         by : (d : ClientState) → (d ≡ x) ⊎ ((n ≡ a.id.client) × (d ≡ with_last_time stamp.time x)) → (d.next_seq ≡ x.next_seq) × (x.last_time ≤ d.last_time)
         by d (inl same) = (ap (λ (y : ClientState). y.next_seq) same, (let k = ap (λ (y : ClientState). y.last_time) same in omega (arith, k)))
         by d (inr same) =
-            let is_c : x ≡ c = some_same x c (sym e ∙ (λ i. client_in clients (same.0 i)) ∙ found) in
+            let is_c : x ≡ c = same_Some x c (sym e ∙ (λ i. client_in clients (same.0 i)) ∙ found) in
             let last : x.last_time ≡ c.last_time = ap (λ (y : ClientState). y.last_time) is_c in
             (ap (λ (y : ClientState). y.next_seq) same.1, (let k = ap (λ (y : ClientState). y.last_time) same.1 in omega (arith, k, last, above)))
 
@@ -258,7 +261,7 @@ module _ (clients : List ClientState) (attempts : List AttemptState) (h : Identi
     last_now d e =
         let there_now : client_in (change (is_client a.id.client) (with_last_time stamp.time) clients) a.id.client ≡ Some (with_last_time stamp.time c) =
         find-change (is_client a.id.client) (with_last_time stamp.time) clients (λ _. refl) ∙ ap (option_map (with_last_time stamp.time)) found in
-        ap (λ (y : ClientState). y.last_time) (some_same d (with_last_time stamp.time c) (sym e ∙ there_now))
+        ap (λ (y : ClientState). y.last_time) (same_Some d (with_last_time stamp.time c) (sym e ∙ there_now))
 
     -- an attempt that is found afterwards
     stamped_back : (id : TxnId) (b : AttemptState) → attempt_in (change (is_attempt a.id) (with_txn stamp writes) attempts) id ≡ Some b →
@@ -269,20 +272,20 @@ module _ (clients : List ClientState) (attempts : List AttemptState) (h : Identi
       where
         by : (x : AttemptState) → attempt_in attempts id ≡ Some x → (b ≡ x) ⊎ ((id ≡ a.id) × (b ≡ with_txn stamp writes x)) → (attempt_in attempts id ≡ Some b) ⊎ ((id ≡ a.id) × (b ≡ with_txn stamp writes a))
         by x f (inl same) = inl (f ∙ ap Some (sym same))
-        by x f (inr k) = inr (k.0, k.1 ∙ ap (with_txn stamp writes) (some_same x a (sym f ∙ (λ i. attempt_in attempts (k.0 i)) ∙ here)))
+        by x f (inr k) = inr (k.0, k.1 ∙ ap (with_txn stamp writes) (same_Some x a (sym f ∙ (λ i. attempt_in attempts (k.0 i)) ∙ here)))
 
     the_reads : (b : AttemptState) (t : Transaction) → b ≡ with_txn stamp writes a → b.txn ≡ Some t → t.reads ≡ a.reads
-    the_reads b t same s = ap (λ (x : Transaction). x.reads) (some_same t (stamped_txn a stamp writes) (sym s ∙ ap (λ (x : AttemptState). x.txn) same))
+    the_reads b t same s = ap (λ (x : Transaction). x.reads) (same_Some t (stamped_txn a stamp writes) (sym s ∙ ap (λ (x : AttemptState). x.txn) same))
 
     the_stamp : (b : AttemptState) (t : Transaction) → b ≡ with_txn stamp writes a → b.txn ≡ Some t → t.stamp ≡ stamp
-    the_stamp b t same s = ap (λ (x : Transaction). x.stamp) (some_same t (stamped_txn a stamp writes) (sym s ∙ ap (λ (x : AttemptState). x.txn) same))
+    the_stamp b t same s = ap (λ (x : Transaction). x.stamp) (same_Some t (stamped_txn a stamp writes) (sym s ∙ ap (λ (x : AttemptState). x.txn) same))
 
     -- no attempt of the client is later
     no_later : (id : TxnId) (b : AttemptState) → attempt_in attempts id ≡ Some b → a.id.client ≡ id.client → a.id.seq < id.seq → ⊥
     no_later id b e same less =
         let k = h.attempts id b e in
         let own = h.attempts a.id a here in
-        let one : k.client ≡ own.client = some_same k.client own.client (sym k.found ∙ (λ i. client_in clients (sym same i)) ∙ own.found) in
+        let one : k.client ≡ own.client = same_Some k.client own.client (sym k.found ∙ (λ i. client_in clients (sym same i)) ∙ own.found) in
         let next = own.last_reads reads in
         let below : id.seq < own.client.next_seq = subst (λ (x : ClientState). id.seq < x.next_seq) one k.begun in
         omega (arith, below, next, less)
@@ -291,7 +294,7 @@ module _ (clients : List ClientState) (attempts : List AttemptState) (h : Identi
     others_below : (id : TxnId) (b : AttemptState) (t : Transaction) → attempt_in attempts id ≡ Some b → b.txn ≡ Some t → id.client ≡ a.id.client → t.stamp.time < stamp.time
     others_below id b t e s same =
         let k = h.stamps id b t e s in
-        let one : k.client ≡ c = some_same k.client c (sym k.found ∙ (λ i. client_in clients (same i)) ∙ found) in
+        let one : k.client ≡ c = same_Some k.client c (sym k.found ∙ (λ i. client_in clients (same i)) ∙ found) in
         let last : t.stamp.time ≤ c.last_time = subst (λ (x : ClientState). t.stamp.time ≤ x.last_time) one k.not_above in
         omega (arith, last, above)
 
@@ -371,7 +374,7 @@ fresh_above client last clock reads stamp e = by (nat_lt (2 ^ 62) (fresh_time la
     by : (b : Bool) → (if b then None else Some (record { time = fresh_time last clock reads; client = client })) ≡ Some stamp → (last < stamp.time) × (stamp.client ≡ client)
     by true k = absurd (cc k)
     by false k =
-        let same : record { time = fresh_time last clock reads; client = client } ≡ stamp = some_same _ stamp k in
+        let same : record { time = fresh_time last clock reads; client = client } ≡ stamp = same_Some _ stamp k in
         (subst (λ (s : StampType). last < s.time) same (low clock (time_above_reads reads)), sym (ap (λ (s : StampType). s.client) same))
 
 -- and above all that was read
@@ -391,5 +394,5 @@ fresh_above_reads client last clock reads stamp e = by (nat_lt (2 ^ 62) (fresh_t
     by : (b : Bool) → (if b then None else Some (record { time = fresh_time last clock reads; client = client })) ≡ Some stamp → is_above_reads stamp reads ≡ true
     by true k = absurd (cc k)
     by false k =
-        let same : record { time = fresh_time last clock reads; client = client } ≡ stamp = some_same _ stamp k in
+        let same : record { time = fresh_time last clock reads; client = client } ≡ stamp = same_Some _ stamp k in
         above_items stamp reads (subst (λ (s : StampType). time_above_reads reads ≤ s.time) same (low clock (last + 1) (time_above_reads reads)))

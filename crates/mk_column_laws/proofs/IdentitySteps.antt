@@ -1,46 +1,47 @@
 -- Attempts are numbered and stamps rise at every moment, so a stamp names its attempt.
-use Rattle.std.proofs.Common.{◌≡◌, ◌⊎◌, ◌<◌, ◌∙◌, ℕ, Bool, true, false, refl, arith, inl, inr, sym, ap, subst, List, [], ◌∷◌, ◌++◌, Option, Some, None, ◌&&◌, not, map, cond}
+use Rattle.std.proofs.Common.{◌≡◌, ◌∙◌, ℕ, Bool, true, false, refl, arith, inl, inr, sym, ap, subst, List, [], ◌∷◌, ◌++◌, Option, Some, None, ◌&&◌, not, map, cond}
 use Rattle.std.specs.Prelude.{option_map, is_some, ◌==◌, slice_get}
 use Rattle.std.specs.List.{list_any}
 use Rattle.std.proofs.lemmas.Bool.Decides.{nat_tests}
+use Rattle.std.proofs.lemmas.Bool.{and_parts, cond_both, cases_order}
+use Rattle.std.proofs.lemmas.Option.{same_Some}
 use Rattle.mk_lists.specs.Changed.{change}
+use Rattle.mk_lists.proofs.Tests.{list_any-from_Among}
+use Rattle.mk_lists.proofs.Lookups.{Among-find}
+use Rattle.mk_column_laws.proofs.Resets.{reset_attempts, reset_clients}
+use Rattle.mk_model.proofs.Parts.{attempt_of-id, attempt_of-own, heard_of-number, heard_of-same}
+use Rattle.mk_quorum.proofs.Slots.{passes-at}
 use Rattle.mk_txn.specs.declared.TxnId.{TxnId}
 use Rattle.mk_txn.specs.declared.Stamp.{Stamp as StampType}
 use Rattle.mk_txn.specs.declared.WriteItem.{WriteItem}
 use Rattle.mk_txn.specs.Stamps.{next_stamp_of}
 use Rattle.mk_txn.specs.Transactions.{Transaction}
-use Rattle.mk_txn.proofs.ClashFacts.{list_any-from_member}
-use Rattle.mk_cell.specs.declared.Answer.{Answer}
-use Rattle.mk_msg.specs.declared.Msg.{Msg}
-use Rattle.mk_msg.specs.declared.Body.{Body}
-use Rattle.mk_msg.specs.declared.Body.TheVariants.{Moved as MovedBody}
-use Rattle.mk_msg.specs.Links.{message, goes_to_replica}
-use Rattle.mk_coord.specs.declared.Ruling.{Ruling}
-use Rattle.mk_coord.specs.declared.Ruling.TheVariants.{Fast, Propose, Learned, Short, Unaccepted}
-use Rattle.mk_coord.specs.Rulings.{ruling}
-use Rattle.mk_takeover.specs.declared.Pick.{Pick}
-use Rattle.mk_takeover.specs.declared.Pick.TheVariants.{Known, Learned as PickLearned, Propose as PickPropose, Short as PickShort, Unaccepted as PickUnaccepted, Unclear}
-use Rattle.mk_takeover.specs.Picks.{pick}
-use Rattle.mk_valid.specs.Checks.{KeyAct}
-use Rattle.mk_valid.specs.Validations.{ValidationState, next_act, after_answer}
-use Rattle.mk_column.specs.declared.Step.{Step}
-use Rattle.mk_column.specs.declared.Step.TheVariants.{Begin, Unread, Read, Stamp, Validate, Take, Key, Rule, Again, Takeover, Pick as PickStep, Stop}
-use Rattle.mk_column.specs.ColumnState.{Setting, ColumnState, ClientState, AttemptState, Work, client_of, attempt_of, takeover_of, is_client, is_attempt, new_client}
-use Rattle.mk_column.specs.ColumnState.Work.{Idle, Fetching, Validating, Finishing}
-use Rattle.mk_column.specs.Conditions.{conditions, may_begin}
-use Rattle.mk_column.specs.Answers.{attempt_answered, heard_of, listens, is_led}
-use Rattle.mk_column.specs.Learnings.{txn_of}
-use Rattle.mk_column.specs.Logs.{not_reading, replica_reset}
-use Rattle.mk_column.specs.Steps.{stepped, new_attempt, unread_attempt, next_id, begun, epoch_of, stamped, with_read, ruled, picked, proposing, taught as having_learned, taken, replica_takes, answered, validated}
-use Rattle.mk_column.proofs.Frames.{AllTrue, on_some-keeps, either_way, enabled}
+use Rattle.mk_words.specs.declared.Answer.{Answer}
+use Rattle.mk_words.specs.declared.Msg.{Msg}
+use Rattle.mk_words.specs.Links.{message, goes_to_replica}
+use Rattle.mk_words.specs.declared.Ruling.{Ruling}
+use Rattle.mk_words.specs.declared.Ruling.TheVariants.{Fast, Propose, Learned, Short, Unaccepted}
+use Rattle.mk_words.specs.Rulings.{ruling}
+use Rattle.mk_words.specs.declared.Pick.{Pick}
+use Rattle.mk_words.specs.declared.Pick.TheVariants.{Known, Learned as PickLearned, Propose as PickPropose, Short as PickShort, Unaccepted as PickUnaccepted, Unclear}
+use Rattle.mk_words.specs.Picks.{pick}
+use Rattle.mk_words.specs.Checks.{KeyAct}
+use Rattle.mk_words.specs.Validations.{ValidationState, next_act, after_answer}
+use Rattle.mk_words.specs.declared.Step.{Step}
+use Rattle.mk_words.specs.declared.Step.TheVariants.{Begin, Unread, Read, Stamp, Validate, Take, Key, Rule, Again, Takeover, Pick as PickStep, Stop}
+use Rattle.mk_model.specs.ColumnState.{Setting, ColumnState, ClientState, AttemptState, Work, client_of, attempt_of, takeover_of, is_client, is_attempt, new_client}
+use Rattle.mk_model.specs.ColumnState.Work.{Idle, Fetching, Validating, Finishing}
+use Rattle.mk_model.specs.Conditions.{conditions, may_begin}
+use Rattle.mk_model.specs.Answers.{attempt_answered, heard_of, listens, is_led}
+use Rattle.mk_model.specs.Learnings.{txn_of}
+use Rattle.mk_model.specs.Logs.{not_reading}
+use Rattle.mk_model.specs.Steps.{stepped, new_attempt, unread_attempt, next_id, begun, epoch_of, stamped, with_read, ruled, picked, proposing, taught as having_learned, taken, replica_takes, answered, validated}
+use Rattle.mk_model.proofs.Frames.{AllTrue, on_some-keeps, enabled}
 use Rattle.mk_column_laws.specs.Moments.{Moment, Taught, Event, CanHappen, EachHappens, moment_through, after_event, first_moment, replicas_reset}
 use Rattle.mk_column_laws.specs.Moments.Event.{NewRound, Doing}
 use Rattle.mk_column_laws.specs.Identity.{Identity, client_in, attempt_in, IdsOnce, StampsName}
-use Rattle.mk_column_laws.proofs.Lookups.{some_same, there, and_right}
-use Rattle.mk_column_laws.proofs.SortedAttempts.{attempt_id, own_number}
-use Rattle.mk_column_laws.proofs.Tables.{find-among}
 use Rattle.mk_column_laws.proofs.Identities.{aside, attempt_aside, client_aside, begins, stamps_one, fresh_above, fresh_above_reads, number_of}
-use Rattle.mk_column_laws.proofs.Rounds.{find-map, reset_attempts}
+use Rattle.mk_column_laws.proofs.Rounds.{find-map}
 
 module _ (round : Setting) (column : ColumnState) (h : Identity column.clients column.attempts) where
   abbrev Fine : ColumnState → Type 0
@@ -49,10 +50,10 @@ module _ (round : Setting) (column : ColumnState) (h : Identity column.clients c
   -- no attempt of a client that may begin is reading
   not_reading_yet : (client : ℕ) → may_begin column client ≡ true → (id : TxnId) (a : AttemptState) → attempt_of column id ≡ Some a → id.client ≡ client → a.reading ≡ true → ⊥
   not_reading_yet client may id a e same reads =
-      let none = and_right (is_some (client_of column client)) (not (list_any (λ b. b.reading && b.id.client == client) column.attempts)) may in
-      let own : a.id.client ≡ client = ap (λ (x : TxnId). x.client) (attempt_id column id a e) ∙ same in
+      let none = (and_parts (is_some (client_of column client)) (not (list_any (λ b. b.reading && b.id.client == client) column.attempts)) may).1 in
+      let own : a.id.client ≡ client = ap (λ (x : TxnId). x.client) (attempt_of-id column id a e) ∙ same in
       let test : (a.reading && a.id.client == client) ≡ true = grind (arith, nat_tests, reads, own) in
-      let some = list_any-from_member (λ (b : AttemptState). b.reading && b.id.client == client) column.attempts a (find-among (is_attempt id) column.attempts a e) test in
+      let some = list_any-from_Among (λ (b : AttemptState). b.reading && b.id.client == client) column.attempts a (Among-find (is_attempt id) column.attempts a e) test in
       cc (none, some)
 
   begin_one : (client : ℕ) (epoch : ℕ) (c : ClientState) (new : AttemptState) → client_of column client ≡ Some c → may_begin column client ≡ true → new.id ≡ next_id c → new.txn ≡ None →
@@ -69,25 +70,11 @@ module _ (round : Setting) (column : ColumnState) (h : Identity column.clients c
       let f = fresh_above c.number c.last_time clock a.reads stamp is in
       stamps_one column.clients column.attempts h a c stamp writes e reads found f.0 f.1 (fresh_above_reads c.number c.last_time clock a.reads stamp is)
 
-  heard_number : (b : Body) (c : ClientState) → (heard_of b c).number ≡ c.number
-  heard_number (MovedBody moved) c = refl
-  heard_number _ c = refl
-
-  heard_same : (b : Body) (c : ClientState) → ((heard_of b c).last_time ≡ c.last_time) × ((heard_of b c).next_seq ≡ c.next_seq)
-  heard_same (MovedBody moved) c = (refl, refl)
-  heard_same _ c = (refl, refl)
-
   taken_fine : (msg : Msg) → Fine (taken round msg column)
   taken_fine msg =
-      either_way Fine (goes_to_replica msg.body) _ _
-      (λ _. on_some-keeps Fine (replica_takes round msg) (txn_of column msg.id) column (λ txn e. h) h)
-      (λ _. either_way Fine (msg.view == 0) _ _
-      (λ _. either_way Fine (listens (attempt_of column msg.id)) _ _
-      (λ _. client_aside column.clients (change (is_attempt msg.id) (attempt_answered msg.replica msg.body) column.attempts)
+      cond_both (goes_to_replica msg.body) _ _ Fine (λ _. on_some-keeps Fine (replica_takes round msg) (txn_of column msg.id) column (λ txn e. h) h) (λ _. cond_both (msg.view == 0) _ _ Fine (λ _. cond_both (listens (attempt_of column msg.id)) _ _ Fine (λ _. client_aside column.clients (change (is_attempt msg.id) (attempt_answered msg.replica msg.body) column.attempts)
       (attempt_aside column.clients column.attempts h msg.id (attempt_answered msg.replica msg.body) (λ _. refl) (λ a. (refl, λ r. r)))
-      msg.id.client (heard_of msg.body) (heard_number msg.body) (heard_same msg.body))
-      (λ _. h))
-      (λ _. either_way Fine (is_led round msg.epoch msg.view) _ _ (λ _. h) (λ _. h)))
+      msg.id.client (heard_of msg.body) (heard_of-number msg.body) (heard_of-same msg.body)) (λ _. h)) (λ _. cond_both (is_led round msg.epoch msg.view) _ _ Fine (λ _. h) (λ _. h)))
 
   ruled_fine : (a : AttemptState) (r : Ruling) → Fine (ruled round.faults a r column)
   ruled_fine a (Fast o) = attempt_aside column.clients column.attempts h a.id (having_learned o) (λ _. refl) (λ _. (refl, λ r. r))
@@ -125,8 +112,8 @@ module _ (round : Setting) (column : ColumnState) (h : Identity column.clients c
   step_fine (Stamp id clock writes) c =
       on_some-keeps Fine _ (attempt_of column id) column
       (λ a e. on_some-keeps Fine _ (client_of column a.id.client) column
-      (λ d k. stamp_one a d clock writes (next_stamp_of d.number d.last_time clock a.reads) (own_number column id a e)
-      (there (λ (x : AttemptState). x.reading) (attempt_of column id) a e c.1.0) k refl) h) h
+      (λ d k. stamp_one a d clock writes (next_stamp_of d.number d.last_time clock a.reads) (attempt_of-own column id a e)
+      (passes-at (λ (x : AttemptState). x.reading) (attempt_of column id) a e c.1.0) k refl) h) h
   step_fine (Validate id) c = on_some-keeps Fine _ (attempt_of column id) column (λ a _. h) h
   step_fine (Take number) c = on_some-keeps Fine _ (message column.link number) column (λ msg _. taken_fine msg) h
   step_fine (Key call answer) c = answered_fine answer column.work
@@ -138,10 +125,6 @@ module _ (round : Setting) (column : ColumnState) (h : Identity column.clients c
       (λ a _. on_some-keeps Fine _ (takeover_of column a.id view) column (λ t _. picked_fine view a (pick round.faults t.state)) h) h
   step_fine (Stop id) c = attempt_aside column.clients column.attempts h id (λ a. record a { stopped = true }) (λ _. refl) (λ _. (refl, λ r. r))
 
-reset_clients : (resets : List ℕ) (c : ColumnState) → (replicas_reset resets c).clients ≡ c.clients
-reset_clients [] c = refl
-reset_clients (r ∷ resets) c = reset_clients resets (replica_reset r c)
-
 not_reading_fine : (clients : List ClientState) (attempts : List AttemptState) → Identity clients attempts → Identity clients (map not_reading attempts)
 not_reading_fine clients attempts h =
     aside clients clients attempts (map not_reading attempts) h (λ n c e. (c, e, (refl, refl))) (λ n c e. (c, e, (refl, refl)))
@@ -152,7 +135,7 @@ not_reading_fine clients attempts h =
         (a : AttemptState) × (attempt_in attempts id ≡ Some a) × ((b.txn ≡ a.txn) × (b.reading ≡ true → a.reading ≡ true))
     by id b None e k = absurd (let n : option_map not_reading (attempt_in attempts id) ≡ None = ap (option_map not_reading) e in cc (n, k))
     by id b (Some a) e k =
-        let same : not_reading a ≡ b = some_same (not_reading a) b (sym (ap (option_map not_reading) e) ∙ k) in
+        let same : not_reading a ≡ b = same_Some (not_reading a) b (sym (ap (option_map not_reading) e) ∙ k) in
         (a, e, (ap (λ (x : AttemptState). x.txn) (sym same), λ r. absurd (let quiet : b.reading ≡ false = ap (λ (x : AttemptState). x.reading) (sym same) in cc (quiet, r))))
 
 -- the clients at the start
@@ -161,7 +144,7 @@ start_client [] n c e = absurd (cc e)
 start_client (k ∷ numbers) n c e = by (start_client numbers n c) (k == n) e
   where
     by : (client_in (map new_client numbers) n ≡ Some c → c.next_seq ≡ 1) → (b : Bool) → cond b (Some (new_client k)) (client_in (map new_client numbers) n) ≡ Some c → c.next_seq ≡ 1
-    by again true q = ap (λ (x : ClientState). x.next_seq) (sym (some_same (new_client k) c q))
+    by again true q = ap (λ (x : ClientState). x.next_seq) (sym (same_Some (new_client k) c q))
     by again false q = again q
 
 pub start_fine : (numbers : List ℕ) → Identity (map new_client numbers) []
@@ -190,9 +173,6 @@ ids_once taught stays m r =
     subst (λ (x : Moment). Identity x.column.clients x.column.attempts) r.leads
     (fine_through taught (first_moment r.version r.faults r.keys r.clients) r.events r.happens (start_fine r.clients))
 
-compare : (v w : ℕ) → (v < w) ⊎ ((v ≡ w) ⊎ (w < v))
-compare v w = grind arith
-
 -- from what holds of clients, attempts and stamps
 pub named_by_stamp : (clients : List ClientState) (attempts : List AttemptState) → Identity clients attempts → (id other : TxnId) (a b : AttemptState) (t u : Transaction) →
     attempt_in attempts id ≡ Some a → attempt_in attempts other ≡ Some b → a.txn ≡ Some t → b.txn ≡ Some u → t.stamp ≡ u.stamp → id ≡ other
@@ -201,9 +181,9 @@ named_by_stamp clients attempts h id other a b t u e f s q same =
     let o = (h.stamps other b u f q).of_client in
     let client : id.client ≡ other.client = sym p ∙ ap (λ (z : StampType). z.client) same ∙ o in
     let time : t.stamp.time ≡ u.stamp.time = ap (λ (z : StampType). z.time) same in
-    elim (compare id.seq other.seq) [
-      | inl less ↦ absurd (let k = h.rise id other a b t u e f s q client less in omega (arith, k, time))
-      | inr (inl seq) ↦ λ i. record { client = client i; seq = seq i }
+    elim (cases_order id.seq other.seq) [
+      | inl seq ↦ λ i. record { client = client i; seq = seq i }
+      | inr (inl less) ↦ absurd (let k = h.rise id other a b t u e f s q client less in omega (arith, k, time))
       | inr (inr more) ↦ absurd (let k = h.rise other id b a u t f e q s (sym client) more in omega (arith, k, time))
     ]
 

@@ -4,18 +4,20 @@ use Rattle.std.specs.Prelude.{nat_le, nat_lt, ◌==◌}
 use Rattle.std.specs.List.{list_any, list_all}
 use Rattle.std.proofs.lemmas.Bool.Decides.{nat_tests}
 use Rattle.std.proofs.lemmas.List.{length-append, map-append}
+use Rattle.std.proofs.lemmas.Option.{none-some, same_Some}
+use Rattle.std.proofs.lemmas.Bool.{and_parts}
 use Rattle.mk_txn.specs.declared.TxnId.{TxnId}
 use Rattle.mk_txn.specs.declared.Stamp.{Stamp as StampType}
 use Rattle.mk_txn.specs.declared.ReadItem.{ReadItem}
 use Rattle.mk_txn.specs.declared.WriteItem.{WriteItem}
 use Rattle.mk_txn.specs.Stamps.{next_stamp_of}
 use Rattle.mk_txn.specs.Transactions.{read_keys, write_keys, are_distinct}
-use Rattle.mk_cell.specs.declared.Answer.{Answer}
-use Rattle.mk_cell.specs.declared.Answer.TheVariants.{Version, Okay, Refused, Done}
-use Rattle.mk_column.specs.ColumnState.{AttemptState, Work, attempt_of}
-use Rattle.mk_column.specs.ColumnState.Work.{Fetching}
-use Rattle.mk_column.specs.Conditions.{may_read, writes_fit}
-use Rattle.mk_column.specs.Steps.{with_read, stamped_txn}
+use Rattle.mk_words.specs.declared.Answer.{Answer}
+use Rattle.mk_words.specs.declared.Answer.TheVariants.{Version, Okay, Refused, Done}
+use Rattle.mk_model.specs.ColumnState.{AttemptState, Work, attempt_of}
+use Rattle.mk_model.specs.ColumnState.Work.{Fetching}
+use Rattle.mk_model.specs.Conditions.{may_read, writes_fit}
+use Rattle.mk_model.specs.Steps.{with_read, stamped_txn}
 use Rattle.mk_column_laws.specs.Moments.{Moment, Taught, StaysTaught, Event, EachHappens, moment_through, after_event, first_moment}
 use Rattle.mk_column_laws.specs.Moments.Event.{NewRound, Doing}
 use Rattle.mk_column_laws.specs.Moves.{Moves, AttemptMove, AttemptChange, WorkMove}
@@ -24,21 +26,15 @@ use Rattle.mk_column_laws.specs.Moves.AttemptChange.{EndsReading, Reads, Stamps,
 use Rattle.mk_column_laws.specs.Moves.WorkMove.{WorkRests, WorkFetches, WorkValidates, WorkGoesOn, WorkEnds, WorkFinishes}
 use Rattle.mk_column_laws.specs.Facts.{Facts}
 use Rattle.mk_column_laws.specs.Items.{IsOfKeys, ItemsOf, FetchesNew, ItemFacts, ItemsFit}
-use Rattle.mk_column_laws.proofs.Lookups.{some_same}
-use Rattle.mk_column_laws.proofs.Growing.{none_some}
 use Rattle.mk_column_laws.proofs.Identities.{fresh_above_reads}
 use Rattle.mk_column_laws.proofs.Rounds.{event_facts, event_moves, start_facts}
-
-both : (a b : Bool) → (a && b) ≡ true → (a ≡ true) × (b ≡ true)
-both true b e = (refl, e)
-both false b e = absurd (cc e)
 
 -- ---- one key more
 
 distinct_push : (keys : List ℕ) (key : ℕ) → are_distinct keys ≡ true → list_any (λ y. y == key) keys ≡ false → are_distinct (keys ++ key ∷ []) ≡ true
 distinct_push [] key d new = refl
 distinct_push (x ∷ keys) key d new =
-    let k = both (not (list_any (λ y. y == x) keys)) (are_distinct keys) d in
+    let k = and_parts (not (list_any (λ y. y == x) keys)) (are_distinct keys) d in
     let n = none_of (x == key) (list_any (λ y. y == key) keys) new in
     let rest = distinct_push keys key k.1 n.1 in
     let here = not_there x keys key k.0 n.0 in
@@ -61,7 +57,7 @@ distinct_push (x ∷ keys) key d new =
 all_push : (p : ReadItem → Bool) (items : List ReadItem) (item : ReadItem) → list_all p items ≡ true → p item ≡ true → list_all p (items ++ item ∷ []) ≡ true
 all_push p [] item h k = grind (arith, k)
 all_push p (x ∷ items) item h k =
-    let b = both (p x) (list_all p items) h in
+    let b = and_parts (p x) (list_all p items) h in
     let rest = all_push p items item b.1 k in
     let first = b.0 in
     grind (arith, rest, first)
@@ -83,7 +79,7 @@ same_items keys a b reads txn h =
 -- an attempt that read a key
 one_read : (keys key : ℕ) (answer : Answer) (a : AttemptState) → nat_lt key keys ≡ true → may_read key a ≡ true → ItemsOf keys a → ItemsOf keys (with_read key answer a)
 one_read keys key (Version version value) a in_range may h =
-    let k = both (not (list_any (λ item. item.key == key) a.reads)) (nat_lt (length a.reads) 16) may in
+    let k = and_parts (not (list_any (λ item. item.key == key) a.reads)) (nat_lt (length a.reads) 16) may in
     let item : ReadItem = record { key = key; version = version; value = value } in
     let new : list_any (λ y. y == key) (read_keys a.reads) ≡ false = any_keys a.reads key ∙ negated (list_any (λ item. item.key == key) a.reads) k.0 in
     let longer = length-append a.reads (record { key = key; version = version; value = value } ∷ []) in
@@ -117,8 +113,8 @@ one_read keys key Done a in_range may h = same_items keys a (with_read key Done 
 stamped_fits : (keys client last clock : ℕ) (a : AttemptState) (stamp : StampType) (writes : List WriteItem) → ItemsOf keys a → writes_fit keys writes ≡ true →
     nat_lt 0 (length a.reads + length writes) ≡ true → next_stamp_of client last clock a.reads ≡ Some stamp → IsOfKeys keys (stamped_txn a stamp writes)
 stamped_fits keys client last clock a stamp writes h fit some next =
-    let p = both (nat_le (length writes) 16 && are_distinct (write_keys writes)) (list_all (λ item. nat_lt item.key keys) writes) fit in
-    let q = both (nat_le (length writes) 16) (are_distinct (write_keys writes)) p.0 in
+    let p = and_parts (nat_le (length writes) 16 && are_distinct (write_keys writes)) (list_all (λ item. nat_lt item.key keys) writes) fit in
+    let q = and_parts (nat_le (length writes) 16) (are_distinct (write_keys writes)) p.0 in
     record {
       is_transaction = record {
         few_reads = h.few;
@@ -141,14 +137,14 @@ module _ (m next : Moment) (moves : Moves m next) (same_keys : next.round.keys �
     where
       fetched : FetchesNew m (Fetching id replica key) → ItemsOf m.round.keys (with_read key answer a)
       fetched z =
-          one_read m.round.keys key answer a z.2 (subst (λ (x : AttemptState). may_read key x ≡ true) (some_same z.0 a (sym z.1 ∙ found)) z.3) (f.attempts id a found)
+          one_read m.round.keys key answer a z.2 (subst (λ (x : AttemptState). may_read key x ≡ true) (same_Some z.0 a (sym z.1 ∙ found)) z.3) (f.attempts id a found)
   change_items id a b found (Stamps client clock stamp writes reading fit some c n e) =
       subst (ItemsOf m.round.keys) (sym e)
       (record {
         few = (f.attempts id a found).few;
         distinct = (f.attempts id a found).distinct;
         there = (f.attempts id a found).there;
-        txn = λ t q. subst (IsOfKeys m.round.keys) (some_same (stamped_txn a stamp writes) t q)
+        txn = λ t q. subst (IsOfKeys m.round.keys) (same_Some (stamped_txn a stamp writes) t q)
             (stamped_fits m.round.keys client.number client.last_time clock a stamp writes (f.attempts id a found) fit some n);
       })
   change_items id a b found (RulesFast o none is e l) = same_items m.round.keys a b (ap (λ (x : AttemptState). x.reads) e) (ap (λ (x : AttemptState). x.txn) e) (f.attempts id a found)
@@ -160,14 +156,14 @@ module _ (m next : Moment) (moves : Moves m next) (same_keys : next.round.keys �
   attempt_items : (id : TxnId) (new : Option AttemptState) → AttemptMove m next.column id (attempt_of m.column id) new → (b : AttemptState) → new ≡ Some b → ItemsOf m.round.keys b
   attempt_items id new (AttemptStays stays) b e = f.attempts id b (sym stays ∙ e)
   attempt_items id new (AttemptBegins a none n own coord txn reads home) b e =
-      subst (ItemsOf m.round.keys) (some_same a b (sym n ∙ e))
+      subst (ItemsOf m.round.keys) (same_Some a b (sym n ∙ e))
       (record {
         few = subst (λ (l : List ReadItem). length l ≤ 16) (sym reads) (omega arith);
         distinct = subst (λ (l : List ReadItem). are_distinct (read_keys l) ≡ true) (sym reads) refl;
         there = subst (λ (l : List ReadItem). list_all (λ item. nat_lt item.key m.round.keys) l ≡ true) (sym reads) refl;
-        txn = λ t q. absurd (none_some a.txn t txn q);
+        txn = λ t q. absurd (none-some t (sym txn ∙ q));
       })
-  attempt_items id new (AttemptChanges x y was n change) b e = subst (ItemsOf m.round.keys) (some_same y b (sym n ∙ e)) (change_items id x y was change)
+  attempt_items id new (AttemptChanges x y was n change) b e = subst (ItemsOf m.round.keys) (same_Some y b (sym n ∙ e)) (change_items id x y was change)
 
   fetches_new : (before new : Work) → WorkMove m next before new → FetchesNew next new
   fetches_new o n (WorkRests e) = subst (FetchesNew next) (sym e) tt

@@ -2,41 +2,42 @@
 use Rattle.std.proofs.Common.{◌≡◌, ◌⊎◌, ◌<◌, ◌≤◌, ◌∙◌, ℕ, Bool, true, false, refl, arith, inl, inr, sym, ap, subst, List, Option, Some, None}
 use Rattle.std.specs.Prelude.{is_some}
 use Rattle.std.specs.Option.{option_or}
+use Rattle.std.proofs.lemmas.Bool.{cond_both}
+use Rattle.std.proofs.lemmas.Option.{none-some, same_Some}
 use Rattle.mk_lists.specs.Among.{Among}
 use Rattle.mk_txn.specs.declared.TxnId.{TxnId}
 use Rattle.mk_txn.specs.declared.Vote.{Vote}
 use Rattle.mk_txn.specs.declared.Outcome.{Outcome}
 use Rattle.mk_txn.specs.Transactions.{Transaction}
-use Rattle.mk_msg.specs.declared.Told.{Told}
-use Rattle.mk_msg.specs.declared.Moved.{Moved}
-use Rattle.mk_msg.specs.declared.Msg.{Msg}
-use Rattle.mk_msg.specs.declared.Body.{Body}
-use Rattle.mk_msg.specs.declared.Body.TheVariants.{Voted, Accepted as AcceptedBody, Decide, Told as ToldBody, Moved as MovedBody}
+use Rattle.mk_words.specs.declared.Told.{Told}
+use Rattle.mk_words.specs.declared.Moved.{Moved}
+use Rattle.mk_words.specs.declared.Msg.{Msg}
+use Rattle.mk_words.specs.declared.Body.{Body}
+use Rattle.mk_words.specs.declared.Body.TheVariants.{Voted, Accepted as AcceptedBody, Decide, Told as ToldBody, Moved as MovedBody}
 use Rattle.mk_quorum.specs.Sizes.{members}
 use Rattle.mk_quorum.specs.Slots.{slot}
-use Rattle.mk_coord.specs.declared.Ruling.TheVariants.{Fast, Propose, Learned}
-use Rattle.mk_coord.specs.Rulings.{CoordState, by_votes, ruling, new_coord}
-use Rattle.mk_takeover.specs.declared.Pick.TheVariants.{Known, Learned as PickLearned, Propose as PickPropose}
-use Rattle.mk_takeover.specs.Picks.{TakeoverState, by_promises, pick, new_takeover, unless_learned}
-use Rattle.mk_column.specs.ColumnState.{AttemptState, TakeoverOf, attempt_of, takeover_of}
-use Rattle.mk_column.specs.ColumnState.Way.{ByVotes}
-use Rattle.mk_column.specs.Answers.{attempt_answered, state_answered, moved_outcome}
-use Rattle.mk_column.specs.Learnings.{learning}
-use Rattle.mk_column.specs.Steps.{taught as having_learned, takeover_proposing}
-use Rattle.mk_column.proofs.Frames.{either_way}
+use Rattle.mk_quorum.proofs.Slots.{slot-empty, slot-filled}
+use Rattle.mk_words.specs.declared.Ruling.TheVariants.{Fast, Propose, Learned}
+use Rattle.mk_words.specs.Rulings.{CoordState, by_votes, ruling, new_coord}
+use Rattle.mk_words.specs.declared.Pick.TheVariants.{Known, Learned as PickLearned, Propose as PickPropose}
+use Rattle.mk_words.specs.Picks.{TakeoverState, by_promises, pick, new_takeover, unless_learned}
+use Rattle.mk_model.specs.ColumnState.{AttemptState, TakeoverOf, attempt_of, takeover_of}
+use Rattle.mk_model.specs.ColumnState.Way.{ByVotes}
+use Rattle.mk_model.specs.Answers.{attempt_answered, state_answered, moved_outcome}
+use Rattle.mk_model.specs.Learnings.{learning}
+use Rattle.mk_model.specs.Steps.{taught as having_learned, takeover_proposing}
 use Rattle.mk_column_laws.specs.Moments.{Moment, Taught, StaysTaught}
-use Rattle.mk_column.specs.Sending.{Sent, Proposed, msg_of}
+use Rattle.mk_model.specs.Sending.{Sent, Proposed, msg_of}
 use Rattle.mk_column_laws.specs.Messages.{VotesIn, RepliesIn, taking_over}
-use Rattle.mk_column.specs.Deciding.{IsDecided}
+use Rattle.mk_model.specs.Deciding.{IsDecided}
 use Rattle.mk_column_laws.specs.Moves.{Moves, AttemptMove, AttemptChange, TakeoverMove, TakeoverChange, HasProposed}
 use Rattle.mk_column_laws.specs.Moves.AttemptMove.{AttemptStays, AttemptBegins, AttemptChanges}
 use Rattle.mk_column_laws.specs.Moves.AttemptChange.{EndsReading, Reads, Stamps, RulesFast, RulesLearned, Proposes, Hears, Stops}
 use Rattle.mk_column_laws.specs.Moves.TakeoverMove.{TakeoverStays, TakeoverBegins, TakeoverChanges}
 use Rattle.mk_column_laws.specs.Moves.TakeoverChange.{Picks, Closes, TakeoverHears}
 use Rattle.mk_column_laws.specs.Facts.{Facts, AttemptFacts, TakeoverFacts, IsBacked, Grows}
-use Rattle.mk_column_laws.proofs.Lookups.{some_same}
-use Rattle.mk_column_laws.proofs.Decisions.{ruling-fast, ruling-propose, ruling-learned, pick-known, pick-learned, pick-propose, accepts_chosen, slot-empty, slot-filled}
-use Rattle.mk_column_laws.proofs.Growing.{grows, none_some, none_there}
+use Rattle.mk_column_laws.proofs.Decisions.{ruling-fast, ruling-propose, ruling-learned, pick-known, pick-learned, pick-propose, accepts_chosen}
+use Rattle.mk_column_laws.proofs.Growing.{grows, none_there}
 use Rattle.mk_column_laws.proofs.Views.{told_says, proposed_says, fast_supported, decided_supported}
 use Rattle.mk_column_laws.proofs.Stable.{Sent-grows, IsSupported-grows, IsBacked-grows, IsStampedIn-grows, AttemptFacts-grows, TakeoverFacts-grows}
 
@@ -56,10 +57,6 @@ or_some None b e = absurd (cc e)
 pub or_right : (a : Option Outcome) (b : Outcome) → is_some (option_or a (Some b)) ≡ true
 or_right (Some x) b = refl
 or_right None b = refl
-
-none_or_some : {X : Type 0} (o : Option X) → (o ≡ None) ⊎ (is_some o ≡ true)
-none_or_some None = inl refl
-none_or_some (Some x) = inr refl
 
 module _ (taught : Taught) (stays : StaysTaught taught) (m next : Moment) (h : Facts taught m) (moves : Moves m next) where
   g : Grows m next
@@ -183,7 +180,7 @@ module _ (taught : Taught) (stays : StaysTaught taught) (m next : Moment) (h : F
           votes = k.votes;
           accepts = k.accepts;
           proposed = k.proposed;
-          learned = λ p e. elim (or_cases a.coord.learned (Some o) p e) [ inl old ↦ k.learned p old | inr new ↦ subst (λ (x : Outcome). IsBacked taught next id x next.past.now) (some_same o p new.1) b ];
+          learned = λ p e. elim (or_cases a.coord.learned (Some o) p e) [ inl old ↦ k.learned p old | inr new ↦ subst (λ (x : Outcome). IsBacked taught next id x next.past.now) (same_Some o p new.1) b ];
         }
 
     change_facts : (a b : AttemptState) → attempt_of m.column id ≡ Some a → AttemptFacts taught next id a → AttemptChange m next.column id a b → AttemptFacts taught next id b
@@ -192,7 +189,7 @@ module _ (taught : Taught) (stays : StaysTaught taught) (m next : Moment) (h : F
     change_facts a b found k (Reads replica key answer w e) = subst (AttemptFacts taught next id) (sym e)
         (record { own_id = k.own_id; unstamped = k.unstamped; txn_id = k.txn_id; votes = k.votes; accepts = k.accepts; proposed = k.proposed; learned = k.learned })
     change_facts a b found k (Stamps client clock stamp writes reading fit some c n e) = subst (AttemptFacts taught next id) (sym e)
-        (record { own_id = k.own_id; unstamped = λ q. absurd (cc q); txn_id = λ t q. ap (λ (x : Transaction). x.id) (sym (some_same _ t q)) ∙ k.own_id; votes = k.votes; accepts = k.accepts; proposed = k.proposed; learned = k.learned })
+        (record { own_id = k.own_id; unstamped = λ q. absurd (cc q); txn_id = λ t q. ap (λ (x : Transaction). x.id) (sym (same_Some _ t q)) ∙ k.own_id; votes = k.votes; accepts = k.accepts; proposed = k.proposed; learned = k.learned })
     change_facts a b found k (Stops e) = subst (AttemptFacts taught next id) (sym e)
         (record { own_id = k.own_id; unstamped = k.unstamped; txn_id = k.txn_id; votes = k.votes; accepts = k.accepts; proposed = k.proposed; learned = k.learned })
     change_facts a b found k (RulesFast o none is e l) = subst (AttemptFacts taught next id) (sym e) (learns a o (fast_backed id a o found is l) k)
@@ -212,7 +209,7 @@ module _ (taught : Taught) (stays : StaysTaught taught) (m next : Moment) (h : F
           learned = k.learned;
           proposed = λ x q.
               let r = ruling-propose m.round.faults a.coord o a.coord.learned a.coord.proposed refl refl is in
-              let same = some_same o x q in
+              let same = same_Some o x q in
               subst (λ (y : Outcome). Proposed next.column.link id 0 y × ((votes : List (Option Vote)) × VotesIn next.column.link id votes × (by_votes next.round.faults votes ≡ Propose y))) same
               (p, (a.coord.votes, k.votes, subst (λ (f : ℕ). by_votes f a.coord.votes ≡ Propose o) (sym moves.same_faults) r.1));
         })
@@ -222,18 +219,18 @@ module _ (taught : Taught) (stays : StaysTaught taught) (m next : Moment) (h : F
         record {
           own_id = own;
           unstamped = λ _. txn;
-          txn_id = λ t e. absurd (none_some a.txn t txn e);
-          votes = λ r v e. absurd (none_some (slot a.coord.votes r) v (ap (λ (c : CoordState). slot c.votes r) coord ∙ slot-empty {X = Vote} (members m.round.faults) r) e);
-          accepts = λ r v e. absurd (none_some (slot a.coord.accepts r) v (ap (λ (c : CoordState). slot c.accepts r) coord ∙ slot-empty {X = Bool} (members m.round.faults) r) e);
-          proposed = λ o e. absurd (none_some a.coord.proposed o (ap (λ (c : CoordState). c.proposed) coord) e);
-          learned = λ o e. absurd (none_some a.coord.learned o (ap (λ (c : CoordState). c.learned) coord) e);
+          txn_id = λ t e. absurd (none-some t (sym txn ∙ e));
+          votes = λ r v e. absurd (none-some v (sym (ap (λ (c : CoordState). slot c.votes r) coord ∙ slot-empty {X = Vote} (members m.round.faults) r) ∙ e));
+          accepts = λ r v e. absurd (none-some v (sym (ap (λ (c : CoordState). slot c.accepts r) coord ∙ slot-empty {X = Bool} (members m.round.faults) r) ∙ e));
+          proposed = λ o e. absurd (none-some o (sym (ap (λ (c : CoordState). c.proposed) coord) ∙ e));
+          learned = λ o e. absurd (none-some o (sym (ap (λ (c : CoordState). c.learned) coord) ∙ e));
         }
 
     pub attempt_facts : (new : Option AttemptState) → AttemptMove m next.column id (attempt_of m.column id) new → (b : AttemptState) → new ≡ Some b → AttemptFacts taught next id b
     attempt_facts new (AttemptStays same) b e = AttemptFacts-grows taught stays m next (grows taught m next h moves) id b (h.attempts id b (sym same ∙ e))
-    attempt_facts new (AttemptBegins a none n own coord txn reads home) b e = subst (AttemptFacts taught next id) (some_same a b (sym n ∙ e)) (empty_facts a own coord txn)
+    attempt_facts new (AttemptBegins a none n own coord txn reads home) b e = subst (AttemptFacts taught next id) (same_Some a b (sym n ∙ e)) (empty_facts a own coord txn)
     attempt_facts new (AttemptChanges x y is n change) b e =
-        subst (AttemptFacts taught next id) (some_same y b (sym n ∙ e))
+        subst (AttemptFacts taught next id) (same_Some y b (sym n ∙ e))
         (change_facts x y is (AttemptFacts-grows taught stays m next (grows taught m next h moves) id x (h.attempts id x is)) change)
 
   -- ---- takeovers
@@ -295,7 +292,7 @@ module _ (taught : Taught) (stays : StaysTaught taught) (m next : Moment) (h : F
           told = k.told;
           accepts = k.accepts;
           learned = k.learned;
-          proposed = λ x q. subst (λ (y : Outcome). Proposed next.column.link id v y × ((replies : List (Option Told)) × RepliesIn next.column.link id v replies × (by_promises next.round.faults (taking_over v replies) ≡ PickPropose y))) (some_same o x q)
+          proposed = λ x q. subst (λ (y : Outcome). Proposed next.column.link id v y × ((replies : List (Option Told)) × RepliesIn next.column.link id v replies × (by_promises next.round.faults (taking_over v replies) ≡ PickPropose y))) (same_Some o x q)
               (p, (t.state.told, replied, subst (λ (f : ℕ). by_promises f (taking_over v t.state.told) ≡ PickPropose o) (sym moves.same_faults) (subst (λ (n : ℕ). by_promises m.round.faults (taking_over n t.state.told) ≡ PickPropose o) k.own_view why.1)));
         }
       where
@@ -307,7 +304,7 @@ module _ (taught : Taught) (stays : StaysTaught taught) (m next : Moment) (h : F
 
         unproposed : (x : Outcome) → HasProposed m id v x → ⊥
         unproposed x (inl q) = omega (arith, q.0, k.from_one)
-        unproposed x (inr q) = none_some t.state.proposed x why.0 (ap (λ (y : TakeoverOf). y.state.proposed) (some_same t q.1.0 (sym found ∙ q.1.1)) ∙ q.1.2)
+        unproposed x (inr q) = none-some x (sym why.0 ∙ (ap (λ (y : TakeoverOf). y.state.proposed) (same_Some t q.1.0 (sym found ∙ q.1.1)) ∙ q.1.2))
 
         below : (a : ℕ) → a ≤ v → (a ≡ v → ⊥) → a < v
         below a le ne = grind arith
@@ -330,8 +327,7 @@ module _ (taught : Taught) (stays : StaysTaught taught) (m next : Moment) (h : F
         (record { own_view = k.own_view; from_one = k.from_one; begun = k.begun; told = k.told; accepts = k.accepts; proposed = k.proposed; learned = k.learned })
     takeover_change_facts a b found k (TakeoverHears msg among same view e) =
         subst (TakeoverFacts taught next id v) (sym e)
-        (either_way (TakeoverFacts taught next id v) a.closed a (record a { state = state_answered msg.replica msg.body a.state }) (λ _. k)
-        (λ _. state_facts a msg.replica msg.body (msg.epoch, subst (λ (x : Msg). Among x m.column.link) is among) k))
+        (cond_both a.closed a (record a { state = state_answered msg.replica msg.body a.state }) (TakeoverFacts taught next id v) (λ _. k) (λ _. state_facts a msg.replica msg.body (msg.epoch, subst (λ (x : Msg). Among x m.column.link) is among) k))
       where
         is : msg ≡ msg_of msg.epoch id msg.replica v msg.body
         is = λ i. record { epoch = msg.epoch; id = same i; replica = msg.replica; view = view i; body = msg.body }
@@ -343,15 +339,15 @@ module _ (taught : Taught) (stays : StaysTaught taught) (m next : Moment) (h : F
           own_view = refl;
           from_one = pos;
           begun = (s.attempt, s.found, s.stamped);
-          told = λ r t e. absurd (none_some (slot (new_takeover m.round.faults v).told r) t (slot-empty {X = Told} (members m.round.faults) r) e);
-          accepts = λ r b e. absurd (none_some (slot (new_takeover m.round.faults v).accepts r) b (slot-empty {X = Bool} (members m.round.faults) r) e);
+          told = λ r t e. absurd (none-some t (sym (slot-empty {X = Told} (members m.round.faults) r) ∙ e));
+          accepts = λ r b e. absurd (none-some b (sym (slot-empty {X = Bool} (members m.round.faults) r) ∙ e));
           proposed = λ o e. absurd (cc e);
           learned = λ o e. absurd (cc e);
         }
 
     pub takeover_facts : (new : Option TakeoverOf) → TakeoverMove m next.column id v (takeover_of m.column id v) new → (b : TakeoverOf) → new ≡ Some b → TakeoverFacts taught next id v b
     takeover_facts new (TakeoverStays same) b e = TakeoverFacts-grows taught stays m next (grows taught m next h moves) id v b (h.takeovers id v b (sym same ∙ e))
-    takeover_facts new (TakeoverBegins a none found stamped pos n) b e = subst (TakeoverFacts taught next id v) (some_same _ b (sym n ∙ e)) (begun_facts a found stamped pos)
+    takeover_facts new (TakeoverBegins a none found stamped pos n) b e = subst (TakeoverFacts taught next id v) (same_Some _ b (sym n ∙ e)) (begun_facts a found stamped pos)
     takeover_facts new (TakeoverChanges x y is n change) b e =
-        subst (TakeoverFacts taught next id v) (some_same y b (sym n ∙ e))
+        subst (TakeoverFacts taught next id v) (same_Some y b (sym n ∙ e))
         (takeover_change_facts x y is (TakeoverFacts-grows taught stays m next (grows taught m next h moves) id v x (h.takeovers id v x is)) change)

@@ -2,6 +2,7 @@
 use Rattle.std.proofs.Common.{◌≡◌, ◌⊎◌, ◌≤◌, ◌∙◌, ℕ, Bool, true, false, refl, arith, inl, inr, sym, ap, subst, List, [], ◌∷◌, ◌++◌, Option, Some, None, map}
 use Rattle.std.specs.Prelude.{slice_get}
 use Rattle.std.proofs.lemmas.Bool.Decides.{nat_tests}
+use Rattle.std.proofs.lemmas.Option.{none-some, same_Some}
 use Rattle.mk_lists.specs.Among.{Among, Among-append, Among-append_left, Among-append_right}
 use Rattle.mk_txn.specs.declared.TxnId.{TxnId}
 use Rattle.mk_txn.specs.declared.ReadItem.{ReadItem}
@@ -13,17 +14,17 @@ use Rattle.mk_txn.specs.declared.Outcome.{Outcome}
 use Rattle.mk_txn.specs.declared.Outcome.TheVariants.{Commit, Abort}
 use Rattle.mk_txn.specs.Outcomes.{is_ok_vote}
 use Rattle.mk_txn.specs.Transactions.{Transaction}
-use Rattle.mk_cell.specs.declared.Act.TheVariants.{Get, CheckRead, CheckWrite, ReleaseRead, ReleaseWrite}
-use Rattle.mk_cell.specs.declared.Answer.{Answer}
-use Rattle.mk_cell.specs.declared.Answer.TheVariants.{Version, Okay, Refused, Done}
+use Rattle.mk_words.specs.declared.Act.TheVariants.{Get, CheckRead, CheckWrite, ReleaseRead, ReleaseWrite}
+use Rattle.mk_words.specs.declared.Answer.{Answer}
+use Rattle.mk_words.specs.declared.Answer.TheVariants.{Version, Okay, Refused, Done}
 use Rattle.mk_quorum.specs.Slots.{passes}
-use Rattle.mk_valid.specs.Checks.{KeyAct, checks, commits_of, releases_of, release_of, finish_acts}
-use Rattle.mk_valid.specs.Validations.{ValidationState, validation_of, first_of, rest_of, next_by, next_act, after_check, after_left, after_by, after_answer, vote_of, vote_by}
-use Rattle.mk_merge.specs.declared.ReplicaView.{ReplicaView}
-use Rattle.mk_column.specs.ColumnState.{AttemptState, Work, attempt_of}
-use Rattle.mk_column.specs.ColumnState.Work.{Idle, Validating, Finishing}
-use Rattle.mk_column.specs.Replicas.{serves, finishing}
-use Rattle.mk_column.specs.Steps.{epoch_of}
+use Rattle.mk_words.specs.Checks.{KeyAct, checks, commits_of, releases_of, release_of, finish_acts}
+use Rattle.mk_words.specs.Validations.{ValidationState, validation_of, first_of, rest_of, next_by, next_act, after_check, after_left, after_by, after_answer, vote_of, vote_by}
+use Rattle.mk_trim.specs.declared.ReplicaView.{ReplicaView}
+use Rattle.mk_model.specs.ColumnState.{AttemptState, Work, attempt_of}
+use Rattle.mk_model.specs.ColumnState.Work.{Idle, Validating, Finishing}
+use Rattle.mk_model.specs.Replicas.{serves, finishing}
+use Rattle.mk_model.specs.Steps.{epoch_of}
 use Rattle.mk_column_laws.specs.Moments.{Moment, PastAct, PastEntry, Taught}
 use Rattle.mk_column_laws.specs.Moves.{Moves, EntryMove, WorkMove, past_opened, undated}
 use Rattle.mk_column_laws.specs.Moves.EntryMove.{EntryStays, EntryOpens, EntryVotes, EntryPromises, EntryAccepts, EntryFinishes}
@@ -32,8 +33,7 @@ use Rattle.mk_column_laws.specs.Facts.{Facts, WorkFacts}
 use Rattle.mk_column_laws.specs.KeyActs.{ActMove, ActFacts, ActOrigin, VoteActs, ValidationActs, FinishActs, WorkActs, WasDone, IsInEpoch, ReleaseReason, act_at, act_now}
 use Rattle.mk_column_laws.specs.KeyActs.ActMove.{NoAct, ActFetched, ActChecked, ActVoted, ActFinished}
 use Rattle.mk_column_laws.specs.KeyActs.ActOrigin.{OfRead, OfCheck, OfRelease, OfCommit}
-use Rattle.mk_column_laws.proofs.Lookups.{some_same}
-use Rattle.mk_column_laws.proofs.Growing.{grows, none_some}
+use Rattle.mk_column_laws.proofs.Growing.{grows}
 
 -- ---- releases and checks
 
@@ -61,7 +61,7 @@ releases_among txn (c ∷ passed) k r (inr a) = releases_among txn passed (λ d 
 
 pub first_among : (acts : List KeyAct) (act : KeyAct) → first_of acts ≡ Some act → Among act acts
 first_among [] act e = absurd (cc e)
-first_among (x ∷ acts) act e = inl (some_same x act e)
+first_among (x ∷ acts) act e = inl (same_Some x act e)
 
 rest_among : (acts : List KeyAct) (act : KeyAct) → Among act (rest_of acts) → Among act acts
 rest_among [] act a = absurd a
@@ -108,7 +108,7 @@ module _ (m next : Moment) (txn : Transaction) (r epoch : ℕ) (same_now : next.
               | inr later ↦ inr later
             ]
           ];
-          refused = λ c e. absurd (none_some state.refusal c none e);
+          refused = λ c e. absurd (none-some c (sym none ∙ e));
           releases = k.releases;
         }
       where
@@ -121,7 +121,7 @@ module _ (m next : Moment) (txn : Transaction) (r epoch : ℕ) (same_now : next.
           left = λ c a. k.left c (subst (λ (l : List KeyAct). Among c l) (sym left) (inr a));
           whole = λ n c a. absurd (cc n);
           refused = λ c e.
-              let same = some_same (record { key = check.0; reason = reason; stamp = stamp }) c e in
+              let same = same_Some (record { key = check.0; reason = reason; stamp = stamp }) c e in
               subst (λ (x : Conflict). (d : KeyAct) × Among d (checks txn) × (d.0 ≡ x.key) × WasDone next next.past.now r epoch d (Refused x.reason x.stamp)) same
               (check, k.left check (subst (λ (l : List KeyAct). Among check l) (sym left) (inl refl)), refl, done);
           releases = λ x a. releases_among txn state.passed (λ c b. (k.passed c b).1) x a;
@@ -161,18 +161,18 @@ vote_before : (m next : Moment) (r : ℕ) (id : TxnId) (old new : Option PastEnt
     VoteKept e old ⊎ ((txn : Transaction) × ((epoch : ℕ) × ((state : ValidationState) × ((answer : Answer) ×
     ((m.column.work ≡ Validating txn r epoch state) × (txn.id ≡ id) × (next.column.work ≡ Idle) × (e.txn ≡ txn))))))
 vote_before m next r id old new (EntryStays same) e n v is = inl (e, sym same ∙ n, refl, refl)
-vote_before m next r id old new (EntryOpens txn epoch s none k w1 w2) e n v is = absurd (let x = some_same (past_opened txn) e (sym k ∙ n) in none_some e.vote v (ap (λ (y : PastEntry). y.vote) (sym x)) is)
+vote_before m next r id old new (EntryOpens txn epoch s none k w1 w2) e n v is = absurd (let x = same_Some (past_opened txn) e (sym k ∙ n) in none-some v (sym (ap (λ (y : PastEntry). y.vote) (sym x)) ∙ is))
 vote_before m next r id old new (EntryVotes txn epoch state s was w1 own w2 vote answer x q k) e n v is =
-    inr (txn, (epoch, (state, (answer, (w1, own, w2, ap (λ (y : PastEntry). y.txn) (some_same e _ (sym n ∙ k)))))))
-vote_before m next r id None new (EntryPromises txn view s sent last le k w1 w2) e n v is = absurd (none_some e.vote v (ap (λ (y : PastEntry). y.vote) (some_same e _ (sym n ∙ k))) is)
+    inr (txn, (epoch, (state, (answer, (w1, own, w2, ap (λ (y : PastEntry). y.txn) (same_Some e _ (sym n ∙ k)))))))
+vote_before m next r id None new (EntryPromises txn view s sent last le k w1 w2) e n v is = absurd (none-some v (sym (ap (λ (y : PastEntry). y.vote) (same_Some e _ (sym n ∙ k))) ∙ is))
 vote_before m next r id (Some x) new (EntryPromises txn view s sent last le k w1 w2) e n v is =
-    let same = some_same _ e (sym k ∙ n) in inl (x, refl, ap (λ (y : PastEntry). y.vote) same, ap (λ (y : PastEntry). y.txn) same)
-vote_before m next r id None new (EntryAccepts txn view o s sent last le k w1 w2) e n v is = absurd (none_some e.vote v (ap (λ (y : PastEntry). y.vote) (some_same e _ (sym n ∙ k))) is)
+    let same = same_Some _ e (sym k ∙ n) in inl (x, refl, ap (λ (y : PastEntry). y.vote) same, ap (λ (y : PastEntry). y.txn) same)
+vote_before m next r id None new (EntryAccepts txn view o s sent last le k w1 w2) e n v is = absurd (none-some v (sym (ap (λ (y : PastEntry). y.vote) (same_Some e _ (sym n ∙ k))) ∙ is))
 vote_before m next r id (Some x) new (EntryAccepts txn view o s sent last le k w1 w2) e n v is =
-    let same = some_same _ e (sym k ∙ n) in inl (x, refl, ap (λ (y : PastEntry). y.vote) same, ap (λ (y : PastEntry). y.txn) same)
-vote_before m next r id None new (EntryFinishes txn view o s sent last k w1) e n v is = absurd (none_some e.vote v (ap (λ (y : PastEntry). y.vote) (some_same e _ (sym n ∙ k))) is)
+    let same = same_Some _ e (sym k ∙ n) in inl (x, refl, ap (λ (y : PastEntry). y.vote) same, ap (λ (y : PastEntry). y.txn) same)
+vote_before m next r id None new (EntryFinishes txn view o s sent last k w1) e n v is = absurd (none-some v (sym (ap (λ (y : PastEntry). y.vote) (same_Some e _ (sym n ∙ k))) ∙ is))
 vote_before m next r id (Some x) new (EntryFinishes txn view o s sent last k w1) e n v is =
-    let same = some_same _ e (sym k ∙ n) in inl (x, refl, ap (λ (y : PastEntry). y.vote) same, ap (λ (y : PastEntry). y.txn) same)
+    let same = same_Some _ e (sym k ∙ n) in inl (x, refl, ap (λ (y : PastEntry). y.vote) same, ap (λ (y : PastEntry). y.txn) same)
 
 -- ---- all
 
@@ -198,7 +198,7 @@ module _ (taught : Taught) (m next : Moment) (h : Facts taught m) (moves : Moves
   epoch_before : (id : TxnId) (epoch : ℕ) (a : AttemptState) → attempt_of m.column id ≡ Some a → IsInEpoch next id epoch → a.epoch ≡ epoch
   epoch_before id epoch a found e =
       let b = (grows taught m next h moves).attempts id a found in
-      sym b.2.same_epoch ∙ ap (λ (x : AttemptState). x.epoch) (some_same b.0 e.0 (sym b.1 ∙ e.1)) ∙ e.2
+      sym b.2.same_epoch ∙ ap (λ (x : AttemptState). x.epoch) (same_Some b.0 e.0 (sym b.1 ∙ e.1)) ∙ e.2
 
   -- ---- the validation that goes on now
 
@@ -215,7 +215,7 @@ module _ (taught : Taught) (m next : Moment) (h : Facts taught m) (moves : Moves
 
     this_done : (x : KeyAct) → next_act state ≡ Some x → WasDone next next.past.now r ep x answer
     this_done x e =
-        subst (λ (y : KeyAct). WasDone next next.past.now r ep y answer) (some_same act x (sym is ∙ e))
+        subst (λ (y : KeyAct). WasDone next next.past.now r ep y answer) (same_Some act x (sym is ∙ e))
         (subst (λ (i : ℕ). Among (act_at i r ep act answer) next.past.acts) (sym now)
         (subst (λ (n : ℕ). Among (act_at m.past.now r n act answer) next.past.acts) its_epoch
         (subst (λ (l : List PastAct). Among (act_now m r act answer) l) (sym acts) (Among-append_right (act_now m r act answer) m.past.acts (act_now m r act answer ∷ []) (inl refl)))))
@@ -247,7 +247,7 @@ module _ (taught : Taught) (m next : Moment) (h : Facts taught m) (moves : Moves
     the_refusal (Some x) c e = let same : x ≡ c = cc e in ap Some same
 
     same_date : (v x : Vote) (i j : ℕ) → ◌≡◌ {A = Option (Vote × ℕ)} (Some (v, i)) (Some (x, j)) → (v ≡ x) × (i ≡ j)
-    same_date v x i j e = let q : (v, i) ≡ (x, j) = some_same (v, i) (x, j) e in (ap (λ (z : Vote × ℕ). z.0) q, ap (λ (z : Vote × ℕ). z.1) q)
+    same_date v x i j e = let q : (v, i) ≡ (x, j) = same_Some (v, i) (x, j) e in (ap (λ (z : Vote × ℕ). z.0) q, ap (λ (z : Vote × ℕ). z.1) q)
 
     at_round : (i epoch : ℕ) (c : KeyAct) (x : Answer) → m.past.now ≡ i → IsInEpoch next txn.id epoch → WasDone next next.past.now r ep c x → WasDone next i r epoch c x
     at_round i epoch c x e in_epoch d =
@@ -306,7 +306,7 @@ module _ (taught : Taught) (m next : Moment) (h : Facts taught m) (moves : Moves
               let names : t.id ≡ id = ap (λ (y : Transaction). y.id) same_txn ∙ own in
               let opened_one = past_opened t in
               let same : record opened_one { vote = Some (vote_of (after_answer s answer), m.past.now) } ≡ e =
-              some_same _ e (sym entry ∙ (λ i. next.past.entries (same_r i) (names i)) ∙ found) in
+              same_Some _ e (sym entry ∙ (λ i. next.past.entries (same_r i) (names i)) ∙ found) in
               subst (λ (y : PastEntry). VoteActs next r id y) same
               (subst (λ (y : TxnId). VoteActs next r y (record opened_one { vote = Some (vote_of (after_answer s answer), m.past.now) })) names
               (subst (λ (y : ℕ). VoteActs next y t.id (record opened_one { vote = Some (vote_of (after_answer s answer), m.past.now) })) same_r
@@ -354,7 +354,7 @@ module _ (taught : Taught) (m next : Moment) (h : Facts taught m) (moves : Moves
           let same_s : s ≡ z.1.1.0 = cc one in
           let refused : s.refusal ≡ Some z.1.1.1.0 = ap (λ (y : ValidationState). y.refusal) same_s ∙ z.1.1.1.1.2 in
           let names : t.id ≡ id = ap (λ (y : Transaction). y.id) same_txn ∙ z.1.1.1.1.1 in
-          let same : _ ≡ b = some_same _ b (sym entry ∙ (λ j. next.past.entries (same_r j) (names j)) ∙ there) in
+          let same : _ ≡ b = same_Some _ b (sym entry ∙ (λ j. next.past.entries (same_r j) (names j)) ∙ there) in
           inl (z.1.1.1.0, (m.past.now, ap (λ (y : PastEntry). y.vote) (sym same) ∙ ap (λ (o : Option Conflict). Some (vote_by o, m.past.now)) (refusal_stays s answer z.1.1.1.0 refused)))
 
   origin_later : (act : PastAct) → act.round ≤ m.past.now → ActOrigin m act → ActOrigin next act
@@ -437,7 +437,7 @@ module _ (taught : Taught) (m next : Moment) (h : Facts taught m) (moves : Moves
             c,
             (
               m.past.now,
-              ap (λ (y : PastEntry). y.vote) (some_same found _ (sym there ∙ entry)) ∙ ap (λ (o : Option Conflict). Some (vote_by o, m.past.now)) (refusal_stays state answer c refused),
+              ap (λ (y : PastEntry). y.vote) (same_Some found _ (sym there ∙ entry)) ∙ ap (λ (o : Option Conflict). Some (vote_by o, m.past.now)) (refusal_stays state answer c refused),
             ),
           )))
       by (ActFinished r x left answer now round w e w2) = with_new r x answer e (finish_origin r x left answer w)

@@ -1,40 +1,37 @@
 -- Every event keeps what holds of entries, messages, learnings and key calls, and so all of it.
 use Rattle.std.proofs.Common.{◌≡◌, ◌⊎◌, ◌<◌, ◌≤◌, ◌∙◌, ℕ, true, refl, arith, inl, inr, sym, ap, subst, Option, Some, None}
 use Rattle.std.specs.Prelude.{length, slice_get}
+use Rattle.std.proofs.lemmas.Option.{none-some, same_Some}
 use Rattle.mk_lists.specs.Among.{Among}
 use Rattle.mk_txn.specs.declared.TxnId.{TxnId}
 use Rattle.mk_txn.specs.declared.Vote.{Vote}
 use Rattle.mk_txn.specs.declared.Accepted.{Accepted}
 use Rattle.mk_txn.specs.declared.Outcome.{Outcome}
 use Rattle.mk_txn.specs.Transactions.{Transaction}
-use Rattle.mk_msg.specs.declared.Msg.{Msg}
-use Rattle.mk_msg.specs.declared.Body.TheVariants.{Accept, Accepted as AcceptedBody, Decide, Ask}
+use Rattle.mk_words.specs.declared.Msg.{Msg}
+use Rattle.mk_words.specs.declared.Body.TheVariants.{Accept, Accepted as AcceptedBody, Decide, Ask}
 use Rattle.mk_quorum.specs.Sizes.{members}
-use Rattle.mk_coord.specs.declared.Ruling.TheVariants.{Fast}
-use Rattle.mk_coord.specs.Rulings.{by_votes}
-use Rattle.mk_column.specs.ColumnState.{AttemptState, TakeoverOf, Work, Learning, attempt_of, takeover_of}
-use Rattle.mk_column.specs.ColumnState.Work.{Idle, Validating}
-use Rattle.mk_column.specs.ColumnState.Way.{ByVotes}
-use Rattle.mk_column.specs.Replicas.{told_of, serves}
-use Rattle.mk_column.specs.Learnings.{learning}
-use Rattle.mk_column.specs.Steps.{taught as having_learned}
+use Rattle.mk_words.specs.declared.Ruling.TheVariants.{Fast}
+use Rattle.mk_words.specs.Rulings.{by_votes}
+use Rattle.mk_model.specs.ColumnState.{AttemptState, TakeoverOf, Work, Learning, attempt_of, takeover_of}
+use Rattle.mk_model.specs.ColumnState.Work.{Idle, Validating}
+use Rattle.mk_model.specs.ColumnState.Way.{ByVotes}
+use Rattle.mk_model.specs.Replicas.{told_of, serves}
+use Rattle.mk_model.specs.Learnings.{learning}
+use Rattle.mk_model.specs.Steps.{taught as having_learned}
 use Rattle.mk_column_laws.specs.Moments.{Moment, PastEntry, Taught, StaysTaught}
-use Rattle.mk_column.specs.Sending.{Sent, Proposed, msg_of}
+use Rattle.mk_model.specs.Sending.{Sent, Proposed, msg_of}
 use Rattle.mk_column_laws.specs.Moves.{Moves, EntryMove, WorkMove, Newborn, NewLearning, ServesAttempt, IsMatched, past_opened, past_or_opened, undated, entry_of_past}
 use Rattle.mk_column_laws.specs.Moves.EntryMove.{EntryStays, EntryOpens, EntryVotes, EntryPromises, EntryAccepts, EntryFinishes}
 use Rattle.mk_column_laws.specs.Moves.WorkMove.{WorkRests, WorkFetches, WorkValidates, WorkGoesOn, WorkEnds, WorkFinishes}
 use Rattle.mk_column_laws.specs.Moves.Newborn.{ValidateSent, AskSent, ProposalSent, FastSent, LearnedSent, KnownSent, PickSent, VoteSent, AcceptedSent, FinalToldSent, PromiseSent, MovedSent}
 use Rattle.mk_column_laws.specs.Moves.NewLearning.{LearnsFast, LearnsByAccepts, LearnsKnown, LearnsByPick, LearnsTold, LearnsMoved, LearnsFinishing}
 use Rattle.mk_column_laws.specs.Facts.{Facts, EntryFacts, FastFacts, RoundFacts, WorkFacts, ToldFacts, Says, IsBacked}
-use Rattle.mk_column_laws.proofs.Lookups.{some_same}
 use Rattle.mk_column_laws.proofs.Histories.{undated-none, undated-some}
 use Rattle.mk_column_laws.proofs.Decisions.{ruling-fast}
-use Rattle.mk_column_laws.proofs.Growing.{grows, none_some}
+use Rattle.mk_column_laws.proofs.Growing.{grows}
 use Rattle.mk_column_laws.proofs.Stable.{Sent-grows, Proposed-grows, VotesIn-grows, IsBacked-grows, IsStampedIn-grows, Says-grows, EntryFacts-grows, FastFacts-grows}
 use Rattle.mk_column_laws.proofs.Kept.{attempt_facts, takeover_facts, backed_later, learned_backed, fast_backed, known_backed, picked_backed, told_backed, moved_backed, decide_backed, or_right}
-
-undated-of : {X : Type 0} (o : Option (X × ℕ)) (x : X × ℕ) → o ≡ Some x → undated o ≡ Some x.0
-undated-of o x e = ap undated e
 
 module _ (taught : Taught) (stays : StaysTaught taught) (m next : Moment) (h : Facts taught m) (moves : Moves m next) where
   -- ---- entries
@@ -57,7 +54,7 @@ module _ (taught : Taught) (stays : StaysTaught taught) (m next : Moment) (h : F
       }
 
   same_date : {X : Type 0} (x y : X) (i j : ℕ) → ◌≡◌ {A = Option (X × ℕ)} (Some (x, i)) (Some (y, j)) → (x ≡ y) × (i ≡ j)
-  same_date {X} x y i j e = let k : (x, i) ≡ (y, j) = some_same (x, i) (y, j) e in (ap (λ (z : X × ℕ). z.0) k, ap (λ (z : X × ℕ). z.1) k)
+  same_date {X} x y i j e = let k : (x, i) ≡ (y, j) = same_Some (x, i) (y, j) e in (ap (λ (z : X × ℕ). z.0) k, ap (λ (z : X × ℕ). z.1) k)
 
   -- the entry that is there or opened, as it was
   module _ (r : ℕ) (id : TxnId) (txn : Transaction) (s : ServesAttempt m r id txn) where
@@ -65,7 +62,7 @@ module _ (taught : Taught) (stays : StaysTaught taught) (m next : Moment) (h : F
     there_txn None is = refl
     there_txn (Some e) is =
         let f = h.entries r id e is in
-        some_same e.txn txn (sym f.stamped ∙ ap (λ (x : AttemptState). x.txn) (some_same f.attempt s.attempt (sym f.found ∙ s.found)) ∙ s.stamped)
+        same_Some e.txn txn (sym f.stamped ∙ ap (λ (x : AttemptState). x.txn) (same_Some f.attempt s.attempt (sym f.found ∙ s.found)) ∙ s.stamped)
 
     there_accepted : (old : Option PastEntry) → m.past.entries r id ≡ old → (a : Accepted) → (past_or_opened txn old).accepted ≡ Some a →
         (a.view ≤ (past_or_opened txn old).view) × Proposed next.column.link id a.view a.outcome
@@ -80,31 +77,31 @@ module _ (taught : Taught) (stays : StaysTaught taught) (m next : Moment) (h : F
 
     no_last : (l : Option (Outcome × ℕ)) → l ≡ None → (o : Outcome) (i : ℕ) → l ≡ Some (o, i) →
         (i ≤ next.past.now) × IsBacked taught next id o i × ((q v : ℕ) × Sent next.column.link id q v (Decide o))
-    no_last l none o i is = absurd (none_some l (o, i) none is)
+    no_last l none o i is = absurd (none-some (o, i) (sym none ∙ is))
 
   entry_facts : (r : ℕ) (id : TxnId) (old new : Option PastEntry) → m.past.entries r id ≡ old → EntryMove m next r id old new → (e : PastEntry) → new ≡ Some e → EntryFacts taught next r id e
   entry_facts r id old new is (EntryStays same) e n = EntryFacts-grows taught stays m next (grows taught m next h moves) r id e (h.entries r id e (is ∙ sym same ∙ n))
   entry_facts r id old new is (EntryOpens txn epoch s none k w1 w2) e n =
-      subst (EntryFacts taught next r id) (some_same (past_opened txn) e (sym k ∙ n))
+      subst (EntryFacts taught next r id) (same_Some (past_opened txn) e (sym k ∙ n))
       (entry_for r id txn s (past_opened txn) refl (λ a q. absurd (cc q)) (λ w i q. absurd (cc q)) (λ o i q. absurd (cc q)))
   entry_facts r id old new is (EntryVotes txn epoch state s was w1 own w2 vote answer v q k) e n =
-      subst (EntryFacts taught next r id) (some_same _ e (sym k ∙ n))
+      subst (EntryFacts taught next r id) (same_Some _ e (sym k ∙ n))
       (entry_for r id txn s _ refl (λ a z. absurd (cc z)) (λ w i z. let d = (same_date vote w m.past.now i z).1 in omega (arith, d, moves.rises)) (λ o i z. absurd (cc z)))
   entry_facts r id old new is (EntryPromises txn view s sent last le k w1 w2) e n =
-      subst (EntryFacts taught next r id) (some_same _ e (sym k ∙ n))
+      subst (EntryFacts taught next r id) (same_Some _ e (sym k ∙ n))
       (entry_for r id txn s _ (there_txn r id txn s old is)
       (λ a z. let x = there_accepted r id txn s old is a z in (omega (arith, x.0, le), x.1))
       (there_voted r id txn s old is) (no_last r id txn s (past_or_opened txn old).last last))
   entry_facts r id old new is (EntryAccepts txn view outcome s sent last le k w1 w2) e n =
-      subst (EntryFacts taught next r id) (some_same _ e (sym k ∙ n))
+      subst (EntryFacts taught next r id) (same_Some _ e (sym k ∙ n))
       (entry_for r id txn s _ (there_txn r id txn s old is)
-      (λ a z. let same = some_same (record { view = view; outcome = outcome }) a z in (
+      (λ a z. let same = same_Some (record { view = view; outcome = outcome }) a z in (
         let v : view ≡ a.view = ap (λ (x : Accepted). x.view) same in omega (arith, v),
         subst (λ (x : Accepted). Proposed next.column.link id x.view x.outcome) same (r, Sent-grows taught stays m next (grows taught m next h moves) id r view (Accept outcome) sent),
       ))
       (there_voted r id txn s old is) (no_last r id txn s (past_or_opened txn old).last last))
   entry_facts r id old new is (EntryFinishes txn view outcome s sent last k w1) e n =
-      subst (EntryFacts taught next r id) (some_same _ e (sym k ∙ n))
+      subst (EntryFacts taught next r id) (same_Some _ e (sym k ∙ n))
       (entry_for r id txn s _ (there_txn r id txn s old is) (there_accepted r id txn s old is) (there_voted r id txn s old is)
       (λ o i z. let d = same_date outcome o m.past.now i z in (
         (let t = d.1 in omega (arith, t, moves.rises)),
@@ -126,7 +123,7 @@ module _ (taught : Taught) (stays : StaysTaught taught) (m next : Moment) (h : F
         entry = _;
         found = new;
         accepted = λ a e. (there_said old is a e).1;
-        final = λ o e. absurd (none_some (undated (past_or_opened txn old).last) o (ap undated none) e);
+        final = λ o e. absurd (none-some o (sym (ap undated none) ∙ e));
         promise = λ _. record {
           from_one = ask.0;
           promised = omega arith;
@@ -157,7 +154,7 @@ module _ (taught : Taught) (stays : StaysTaught taught) (m next : Moment) (h : F
         where
           by : {e : PastEntry} (o : Option PastEntry) → o ≡ Some e → (a : Accepted) → e.accepted ≡ Some a → u ≤ a.view → (x : Accepted) × ((past_or_opened txn o).accepted ≡ Some x) × (u ≤ x.view)
           by None q a e le = absurd (cc q)
-          by {e} (Some y) q a k le = (a, ap (λ (z : PastEntry). z.accepted) (some_same y e q) ∙ k, le)
+          by {e} (Some y) q a k le = (a, ap (λ (z : PastEntry). z.accepted) (same_Some y e q) ∙ k, le)
 
   -- an accept that is sent now is in the view that the entry then has
   accepts_at : (id : TxnId) (r u : ℕ) (e : PastEntry) → next.past.entries r id ≡ Some e → Sent next.column.link id r u AcceptedBody → Sent m.column.link id r u AcceptedBody ⊎ (e.view ≤ u)
@@ -167,7 +164,7 @@ module _ (taught : Taught) (stays : StaysTaught taught) (m next : Moment) (h : F
   ]
     where
       by : Newborn m next (msg_of s.0 id r u AcceptedBody) → e.view ≤ u
-      by (AcceptedSent entry o b there view acc below sent) = let k : e.view ≡ u = ap (λ (x : PastEntry). x.view) (some_same e entry (sym found ∙ there)) ∙ view in omega (arith, k)
+      by (AcceptedSent entry o b there view acc below sent) = let k : e.view ≡ u = ap (λ (x : PastEntry). x.view) (same_Some e entry (sym found ∙ there)) ∙ view in omega (arith, k)
       by (ValidateSent mark b) = absurd (cc b)
       by (AskSent t b pos there) = absurd (cc b)
       by (ProposalSent o b p) = absurd (cc b)
@@ -187,7 +184,7 @@ module _ (taught : Taught) (stays : StaysTaught taught) (m next : Moment) (h : F
         found = found;
         accepted = λ a e. ((entry_facts r id (m.past.entries r id) (next.past.entries r id) refl (moves.entries r id) entry found).accepted a e).1;
         final = λ x e. undated-some entry.last x e;
-        promise = λ e. absurd (none_some (undated entry.last) o e (ap undated last));
+        promise = λ e. absurd (none-some o (sym e ∙ (ap undated last)));
       }
 
   says_newborn : (msg : Msg) → Newborn m next msg → Says taught next msg msg.body

@@ -1,5 +1,4 @@
 pub mod Highest
-pub mod Lookups
 pub mod Histories
 pub mod Reactions
 pub mod SortedAttempts
@@ -16,6 +15,7 @@ pub mod Views
 pub mod Stable
 pub mod Kept
 pub mod KeptAll
+pub mod Resets
 pub mod Rounds
 pub mod Growth
 pub mod TheLaws

@@ -4,7 +4,7 @@ use Rattle.mk_txn.specs.declared.TxnId.{TxnId}
 use Rattle.mk_txn.specs.declared.Outcome.{Outcome}
 use Rattle.mk_column_laws.specs.Moments.{Moment, Event, StaysTaught, EachHappens, CanHappen, IsReached, after_event, moment_through, first_moment, has_number}
 use Rattle.mk_column_laws.specs.Moments.Event.{NewRound, Doing}
-use Rattle.mk_column.specs.Deciding.{IsDecided}
+use Rattle.mk_model.specs.Deciding.{IsDecided}
 use Rattle.mk_column_laws.specs.Facts.{IsBacked}
 use Rattle.mk_column_laws.specs.FirstEpoch.{nothing_taught, InFirstEpoch, EachInFirstEpoch, OneDecisionInFirstEpoch, LearningsAreDecided, LearningsAgree}
 use Rattle.mk_column_laws.proofs.Rounds.{reached_facts}

@@ -1,5 +1,6 @@
 -- No check of an attempt stands after a commit of it at the same replica.
 use Rattle.std.proofs.Common.{◌≡◌, ◌⊎◌, ◌∙◌, ℕ, Bool, true, false, refl, inl, inr, sym, ap, subst, List, [], ◌∷◌, ◌++◌, Option, Some, None}
+use Rattle.std.proofs.lemmas.Option.{none-some, same_Some}
 use Rattle.mk_lists.specs.Among.{Among}
 use Rattle.mk_txn.specs.declared.Stamp.{Stamp}
 use Rattle.mk_txn.specs.declared.Conflict.{Conflict}
@@ -7,13 +8,13 @@ use Rattle.mk_txn.specs.declared.Outcome.{Outcome}
 use Rattle.mk_txn.specs.declared.Outcome.TheVariants.{Commit, Abort}
 use Rattle.mk_txn.specs.Outcomes.{is_ok_vote}
 use Rattle.mk_txn.specs.Transactions.{Transaction}
-use Rattle.mk_cell.specs.declared.Act.TheVariants.{Get}
-use Rattle.mk_cell.specs.declared.Answer.{Answer}
+use Rattle.mk_words.specs.declared.Act.TheVariants.{Get}
+use Rattle.mk_words.specs.declared.Answer.{Answer}
 use Rattle.mk_quorum.specs.Slots.{passes}
-use Rattle.mk_valid.specs.Checks.{KeyAct, checks, releases_of, finish_acts}
-use Rattle.mk_valid.specs.Validations.{ValidationState, next_act, next_by}
-use Rattle.mk_column.specs.ColumnState.Work.{Validating, Finishing}
-use Rattle.mk_column.proofs.Frames.{enabled}
+use Rattle.mk_words.specs.Checks.{KeyAct, checks, releases_of, finish_acts}
+use Rattle.mk_words.specs.Validations.{ValidationState, next_act, next_by}
+use Rattle.mk_model.specs.ColumnState.Work.{Validating, Finishing}
+use Rattle.mk_model.proofs.Frames.{enabled}
 use Rattle.mk_column_laws.specs.Moments.{Moment, PastAct, PastEntry, Taught, StaysTaught, Event, CanHappen, EachHappens, moment_through, after_event, first_moment}
 use Rattle.mk_column_laws.specs.Moments.Event.{NewRound, Doing}
 use Rattle.mk_column_laws.specs.Moves.{past_opened, undated}
@@ -23,8 +24,6 @@ use Rattle.mk_column_laws.specs.KeyActs.ActMove.{NoAct, ActFetched, ActChecked, 
 use Rattle.mk_column_laws.specs.KeyActs.ActOrigin.{OfRead, OfCheck, OfRelease, OfCommit}
 use Rattle.mk_column_laws.specs.Identity.{Identity}
 use Rattle.mk_column_laws.specs.ActLaws.{CommitsFor, IsNoCheckAfter, NoCheckFollows, NoCheckAfterCommit}
-use Rattle.mk_column_laws.proofs.Lookups.{some_same}
-use Rattle.mk_column_laws.proofs.Growing.{none_some}
 use Rattle.mk_column_laws.proofs.Rounds.{event_facts, start_facts}
 use Rattle.mk_column_laws.proofs.ActMoves.{act_moves}
 use Rattle.mk_column_laws.proofs.KeptActs.{first_among}
@@ -64,8 +63,8 @@ module _ (taught : Taught) (m : Moment) (h : Facts taught m) (k : ActFacts m) (o
           let x = h.entries act.replica id e there in
           let s = w2.1.0 in
           let names = named_by_stamp m.column.clients m.column.attempts own id txn.id x.attempt s.attempt e.txn txn x.found s.found x.stamped s.stamped same in
-          let one : e ≡ past_opened txn = some_same e (past_opened txn) (sym there ∙ (λ j. m.past.entries (at j) (names j)) ∙ w2.0) in
-          none_some e.last (Commit, i) (ap (λ (y : PastEntry). y.last) one) last
+          let one : e ≡ past_opened txn = same_Some e (past_opened txn) (sym there ∙ (λ j. m.past.entries (at j) (names j)) ∙ w2.0) in
+          none-some (Commit, i) (sym (ap (λ (y : PastEntry). y.last) one) ∙ last)
 
   kind_of_act : (txn : Transaction) (r ep : ℕ) (state : ValidationState) (act : KeyAct) → ValidationActs m txn r ep state → (o : Option Conflict) → next_by state o ≡ Some act →
       Among act (checks txn) ⊎ Among act (releases_of txn)

@@ -6,15 +6,15 @@ use Rattle.mk_txn.specs.declared.Vote.TheVariants.{Ok as VoteOk}
 use Rattle.mk_txn.specs.declared.Accepted.{Accepted}
 use Rattle.mk_txn.specs.declared.Outcome.{Outcome}
 use Rattle.mk_txn.specs.Outcomes.{is_ok_vote}
-use Rattle.mk_msg.specs.declared.Told.{Told}
-use Rattle.mk_msg.specs.declared.Msg.{Msg}
-use Rattle.mk_msg.specs.declared.Body.TheVariants.{Voted, Accepted as AcceptedBody, Told as ToldBody}
+use Rattle.mk_words.specs.declared.Told.{Told}
+use Rattle.mk_words.specs.declared.Msg.{Msg}
+use Rattle.mk_words.specs.declared.Body.TheVariants.{Voted, Accepted as AcceptedBody, Told as ToldBody}
 use Rattle.mk_quorum.specs.Slots.{passes}
-use Rattle.mk_coord.specs.declared.Ruling.TheVariants.{Propose}
-use Rattle.mk_coord.specs.Rulings.{by_votes}
-use Rattle.mk_takeover.specs.declared.Pick.TheVariants.{Propose as PickPropose}
-use Rattle.mk_takeover.specs.Picks.{by_promises}
-use Rattle.mk_column.specs.Sending.{Sent, Proposed}
+use Rattle.mk_words.specs.declared.Ruling.TheVariants.{Propose}
+use Rattle.mk_words.specs.Rulings.{by_votes}
+use Rattle.mk_words.specs.declared.Pick.TheVariants.{Propose as PickPropose}
+use Rattle.mk_words.specs.Picks.{by_promises}
+use Rattle.mk_model.specs.Sending.{Sent, Proposed}
 use Rattle.mk_column_laws.specs.Messages.{VotesIn, RepliesIn, taking_over}
 
 pub record IsOrderly (f : ℕ) (link : List Msg) : Type 0 where

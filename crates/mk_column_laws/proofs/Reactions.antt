@@ -2,27 +2,27 @@
 use Rattle.std.proofs.Common.{◌≡◌, ◌<◌, ◌≤◌, ◌∙◌, ℕ, true, false, refl, arith, sym, ap, subst, [], ◌∷◌, ◌++◌, Option, Some, None, not}
 use Rattle.std.specs.Prelude.{option_map, nat_lt}
 use Rattle.std.proofs.lemmas.Bool.Decides.{nat_tests}
+use Rattle.std.proofs.lemmas.Bool.{cond_both}
+use Rattle.mk_words.proofs.EntryLaws.{entry_of-change, entry_of-change_other, entry_of-opened_as, entry_of-opened_other}
 use Rattle.mk_txn.specs.declared.TxnId.{TxnId}
 use Rattle.mk_txn.specs.declared.Vote.{Vote}
 use Rattle.mk_txn.specs.declared.Outcome.{Outcome}
 use Rattle.mk_txn.specs.Outcomes.{is_ok_vote}
 use Rattle.mk_txn.specs.Transactions.{Transaction, same_id}
-use Rattle.mk_record.specs.declared.Entry.{Entry}
-use Rattle.mk_record.specs.Entries.{opened, entry_of, change_entry, with_promise, with_accepted, with_last}
-use Rattle.mk_msg.specs.declared.Msg.{Msg}
-use Rattle.mk_msg.specs.declared.Body.{Body}
-use Rattle.mk_msg.specs.declared.Body.TheVariants.{Validate as ValidateBody, Voted, Accept, Accepted as AcceptedBody, Decide, Ask, Told as ToldBody, Moved as MovedBody}
+use Rattle.mk_words.specs.declared.Entry.{Entry}
+use Rattle.mk_words.specs.Entries.{opened, entry_of, change_entry, with_promise, with_accepted, with_last}
+use Rattle.mk_words.specs.declared.Msg.{Msg}
+use Rattle.mk_words.specs.declared.Body.{Body}
+use Rattle.mk_words.specs.declared.Body.TheVariants.{Validate as ValidateBody, Voted, Accept, Accepted as AcceptedBody, Decide, Ask, Told as ToldBody, Moved as MovedBody}
 use Rattle.mk_quorum.specs.Slots.{passes}
-use Rattle.mk_valid.specs.Checks.{finish_acts}
-use Rattle.mk_valid.specs.Validations.{validation_of}
-use Rattle.mk_trim.specs.KeptOutcomes.{known_of}
-use Rattle.mk_merge.specs.declared.ReplicaView.{ReplicaView}
-use Rattle.mk_column.specs.ColumnState.Work.{Idle, Validating}
-use Rattle.mk_column.specs.Replicas.{Held, Reaction, reply, ignored, answering, changing, told_of, reaction, reaction_by_view, moved_reaction, validate_known, validate_unfinished, ask_known, accept_known, decide_known, with_entry, is_serving, serves, finishing}
-use Rattle.mk_column.proofs.Frames.{either_way}
+use Rattle.mk_words.specs.Checks.{finish_acts}
+use Rattle.mk_words.specs.Validations.{validation_of}
+use Rattle.mk_words.specs.KeptOutcomes.{known_of}
+use Rattle.mk_trim.specs.declared.ReplicaView.{ReplicaView}
+use Rattle.mk_model.specs.ColumnState.Work.{Idle, Validating}
+use Rattle.mk_model.specs.Replicas.{Held, Reaction, reply, ignored, answering, changing, told_of, reaction, reaction_by_view, moved_reaction, validate_known, validate_unfinished, ask_known, accept_known, decide_known, with_entry, is_serving, serves, finishing}
 use Rattle.mk_column_laws.specs.Moments.{PastEntry}
 use Rattle.mk_column_laws.specs.Moves.{past_or_opened, undated, entry_of_past}
-use Rattle.mk_column_laws.proofs.Lookups.{entry_of-opened, entry_of-opened_other, entry_of-change, entry_of-change_other}
 
 -- what is done at the replica with a message of an attempt that was remembered so
 pub data ReactionKind (view : Option ReplicaView) (msg : Msg) (txn : Transaction) (before : Option Entry) (old : Option PastEntry) (re : Reaction) : Type 0 where
@@ -58,9 +58,6 @@ module _ (view : Option ReplicaView) (msg : Msg) (txn : Transaction) (held now :
     (others : (other : TxnId) → same_id msg.id other ≡ false → entry_of other now.entries ≡ entry_of other held.entries)
     (final : (o : Outcome) → undated (past_or_opened txn old).last ≡ Some o → old ≡ Some (past_or_opened txn old))
     (refused : nat_lt msg.view (past_or_opened txn old).view ≡ true → old ≡ Some (past_or_opened txn old)) where
-  there_past : PastEntry
-  there_past = past_or_opened txn old
-
   changed_here : (g : Entry → Entry) → ((e : Entry) → (g e).txn ≡ e.txn) → entry_of msg.id (change_entry msg.id g now.entries) ≡ Some (g (entry_of_past (past_or_opened txn old)))
   changed_here g keeps = entry_of-change msg.id g now.entries keeps ∙ ap (option_map g) here
 
@@ -81,18 +78,14 @@ module _ (view : Option ReplicaView) (msg : Msg) (txn : Transaction) (held now :
   ask_reacts is None e =
       let there = entry_of_past (past_or_opened txn old) in
       let Fine : Reaction → Type 0 = Reacts view msg txn held old in
-      either_way Fine (nat_lt msg.view (past_or_opened txn old).view) (ignored now) (answering (changing (with_promise msg.view) now msg) msg (ToldBody (told_of there)))
-      left_alone
-      (λ high. (PromisesView is served e (grind (arith, nat_tests, high)) (changed_here (with_promise msg.view) (λ _. refl)) refl refl, changed_others (with_promise msg.view) (λ _. refl)))
+      cond_both (nat_lt msg.view (past_or_opened txn old).view) (ignored now) (answering (changing (with_promise msg.view) now msg) msg (ToldBody (told_of there))) Fine left_alone (λ high. (PromisesView is served e (grind (arith, nat_tests, high)) (changed_here (with_promise msg.view) (λ _. refl)) refl refl, changed_others (with_promise msg.view) (λ _. refl)))
 
   pub accept_reacts : (outcome : Outcome) → msg.body ≡ Accept outcome → (last : Option Outcome) → undated (past_or_opened txn old).last ≡ last →
       Reacts view msg txn held old (accept_known outcome (entry_of_past (past_or_opened txn old)) now msg last)
   accept_reacts outcome is (Some o) e = told_final o e
   accept_reacts outcome is None e =
       let Fine : Reaction → Type 0 = Reacts view msg txn held old in
-      either_way Fine (nat_lt msg.view (past_or_opened txn old).view) (ignored now) (answering (changing (with_accepted msg.view outcome) now msg) msg AcceptedBody)
-      left_alone
-      (λ high. (AcceptsOutcome outcome is served e (grind (arith, nat_tests, high)) (changed_here (with_accepted msg.view outcome) (λ _. refl)) refl refl, changed_others (with_accepted msg.view outcome) (λ _. refl)))
+      cond_both (nat_lt msg.view (past_or_opened txn old).view) (ignored now) (answering (changing (with_accepted msg.view outcome) now msg) msg AcceptedBody) Fine left_alone (λ high. (AcceptsOutcome outcome is served e (grind (arith, nat_tests, high)) (changed_here (with_accepted msg.view outcome) (λ _. refl)) refl refl, changed_others (with_accepted msg.view outcome) (λ _. refl)))
 
   pub decide_reacts : (outcome : Outcome) → msg.body ≡ Decide outcome → (last : Option Outcome) → undated (past_or_opened txn old).last ≡ last →
       ((o : Outcome) → undated (past_or_opened txn old).last ≡ Some o → old ≡ Some (past_or_opened txn old)) →
@@ -112,11 +105,6 @@ module _ (view : Option ReplicaView) (msg : Msg) (txn : Transaction) (held : Hel
       by (Some vote) q = (VotesAgain mark past vote body served refl q is refl refl, λ other apart. refl)
       by None q = (Quiet refl refl refl, λ other apart. refl)
 
-  new_here : entry_of msg.id held.entries ≡ None → entry_of msg.id (held.entries ++ opened txn ∷ []) ≡ Some (opened txn)
-  new_here is =
-      subst (λ (x : TxnId). entry_of x (held.entries ++ opened txn ∷ []) ≡ Some (opened txn)) same
-      (entry_of-opened txn held.entries (subst (λ (x : TxnId). entry_of x held.entries ≡ None) (sym same) is))
-
   new_others : (other : TxnId) → same_id msg.id other ≡ false → entry_of other (held.entries ++ opened txn ∷ []) ≡ entry_of other held.entries
   new_others other apart = entry_of-opened_other other txn held.entries (subst (λ (x : TxnId). same_id x other ≡ false) (sym same) apart)
 
@@ -126,19 +114,19 @@ module _ (view : Option ReplicaView) (msg : Msg) (txn : Transaction) (held : Hel
   pub served_reacts : (body : Body) → msg.body ≡ body → (old : Option PastEntry) → entry_of msg.id held.entries ≡ option_map entry_of_past old →
       Reacts view msg txn held old (reaction txn held msg (option_map entry_of_past old) body)
   served_reacts (ValidateBody mark) is (Some past) e = validate_reacts mark past is e (undated past.last) refl
-  served_reacts (ValidateBody mark) is None e = (BeginsValidation mark is served refl (new_here e) refl refl, new_others)
+  served_reacts (ValidateBody mark) is None e = (BeginsValidation mark is served refl (entry_of-opened_as msg.id txn held.entries same e) refl refl, new_others)
   served_reacts Ask is (Some past) e =
       ask_reacts view msg txn held held (Some past) served e e (λ other apart. refl) (λ o k. refl) (λ low. refl) is (undated past.last) refl
   served_reacts Ask is None e =
-      ask_reacts view msg txn held (with_entry txn held None) None served e (new_here e) new_others (λ o k. absurd (cc k)) (λ low. absurd (none_below msg.view low)) is None refl
+      ask_reacts view msg txn held (with_entry txn held None) None served e (entry_of-opened_as msg.id txn held.entries same e) new_others (λ o k. absurd (cc k)) (λ low. absurd (none_below msg.view low)) is None refl
   served_reacts (Accept outcome) is (Some past) e =
       accept_reacts view msg txn held held (Some past) served e e (λ other apart. refl) (λ o k. refl) (λ low. refl) outcome is (undated past.last) refl
   served_reacts (Accept outcome) is None e =
-      accept_reacts view msg txn held (with_entry txn held None) None served e (new_here e) new_others (λ o k. absurd (cc k)) (λ low. absurd (none_below msg.view low)) outcome is None refl
+      accept_reacts view msg txn held (with_entry txn held None) None served e (entry_of-opened_as msg.id txn held.entries same e) new_others (λ o k. absurd (cc k)) (λ low. absurd (none_below msg.view low)) outcome is None refl
   served_reacts (Decide outcome) is (Some past) e =
       decide_reacts view msg txn held held (Some past) served e e (λ other apart. refl) (λ o k. refl) (λ low. refl) outcome is (undated past.last) refl (λ o k. refl)
   served_reacts (Decide outcome) is None e =
-      decide_reacts view msg txn held (with_entry txn held None) None served e (new_here e) new_others (λ o k. absurd (cc k)) (λ low. absurd (none_below msg.view low)) outcome is None refl (λ o k. absurd (cc k))
+      decide_reacts view msg txn held (with_entry txn held None) None served e (entry_of-opened_as msg.id txn held.entries same e) new_others (λ o k. absurd (cc k)) (λ low. absurd (none_below msg.view low)) outcome is None refl (λ o k. absurd (cc k))
   served_reacts (Voted vote) is old e = (Quiet refl refl refl, λ other apart. refl)
   served_reacts AcceptedBody is old e = (Quiet refl refl refl, λ other apart. refl)
   served_reacts (ToldBody told) is old e = (Quiet refl refl refl, λ other apart. refl)
@@ -159,11 +147,9 @@ module _ (msg : Msg) (txn : Transaction) (held : Held) (same : txn.id ≡ msg.id
   view_reacts None old e = quiet_reacts None old
   view_reacts (Some there) old e =
       let Fine : Reaction → Type 0 = Reacts (Some there) msg txn held old in
-      either_way Fine (not (is_serving there.phase)) _ _ (λ _. quiet_reacts (Some there) old) (λ serving.
-      either_way Fine (nat_lt there.epoch msg.epoch) _ _ (λ _. quiet_reacts (Some there) old) (λ not_below.
-      either_way Fine (nat_lt msg.epoch there.epoch) _ _
-      (λ later. moved_reacts there old msg.body (grind (arith, serving)) (grind (arith, nat_tests, later)))
-      (λ not_above. let p : is_serving there.phase ≡ true = grind (arith, serving) in
+      cond_both (not (is_serving there.phase)) _ _ Fine (λ _. quiet_reacts (Some there) old) (λ serving.
+      cond_both (nat_lt there.epoch msg.epoch) _ _ Fine (λ _. quiet_reacts (Some there) old) (λ not_below.
+      cond_both (nat_lt msg.epoch there.epoch) _ _ Fine (λ later. moved_reacts there old msg.body (grind (arith, serving)) (grind (arith, nat_tests, later))) (λ not_above. let p : is_serving there.phase ≡ true = grind (arith, serving) in
       let s : serves msg.epoch (Some there) ≡ true = grind (arith, nat_tests, p, not_below, not_above) in
       subst (λ (known : Option Entry). Fine (reaction txn held msg known msg.body)) (sym (e s))
       (served_reacts (Some there) msg txn held same s msg.body refl old (e s)))))

@@ -1,19 +1,20 @@
 -- What attempts have read was got at their home replicas.
 use Rattle.std.proofs.Common.{◌≡◌, ◌⊎◌, ◌≤◌, ◌∙◌, ℕ, true, false, refl, arith, inl, inr, sym, ap, subst, List, [], ◌∷◌, ◌++◌, Option, Some, None}
 use Rattle.std.specs.Prelude.{option_map, slice_get}
+use Rattle.std.proofs.lemmas.Option.{none-some, same_Some}
 use Rattle.mk_lists.specs.Among.{Among, Among-append, Among-append_right}
 use Rattle.mk_txn.specs.declared.TxnId.{TxnId}
 use Rattle.mk_txn.specs.declared.ReadItem.{ReadItem}
 use Rattle.mk_txn.specs.Transactions.{Transaction}
-use Rattle.mk_cell.specs.declared.Act.TheVariants.{Get}
-use Rattle.mk_cell.specs.declared.Answer.{Answer}
-use Rattle.mk_cell.specs.declared.Answer.TheVariants.{Version, Okay, Refused, Done}
-use Rattle.mk_column.specs.ColumnState.{AttemptState, Work, attempt_of}
-use Rattle.mk_column.specs.ColumnState.Work.{Fetching}
-use Rattle.mk_column.specs.Replicas.{serves}
-use Rattle.mk_column.specs.Steps.{epoch_of, read_item, with_read, stamped_txn}
-use Rattle.mk_column.specs.Logs.{not_reading}
-use Rattle.mk_column.proofs.Frames.{enabled}
+use Rattle.mk_words.specs.declared.Act.TheVariants.{Get}
+use Rattle.mk_words.specs.declared.Answer.{Answer}
+use Rattle.mk_words.specs.declared.Answer.TheVariants.{Version, Okay, Refused, Done}
+use Rattle.mk_model.specs.ColumnState.{AttemptState, Work, attempt_of}
+use Rattle.mk_model.specs.ColumnState.Work.{Fetching}
+use Rattle.mk_model.specs.Replicas.{serves}
+use Rattle.mk_model.specs.Steps.{epoch_of, read_item, with_read, stamped_txn}
+use Rattle.mk_model.specs.Logs.{not_reading}
+use Rattle.mk_model.proofs.Frames.{enabled}
 use Rattle.mk_column_laws.specs.Moments.{Moment, PastAct, Taught, StaysTaught, Event, CanHappen, EachHappens, moment_through, after_event, first_moment}
 use Rattle.mk_column_laws.specs.Moments.Event.{NewRound, Doing}
 use Rattle.mk_column_laws.specs.Moves.{Moves, AttemptMove, AttemptChange, WorkMove}
@@ -24,8 +25,6 @@ use Rattle.mk_column_laws.specs.Facts.{Facts}
 use Rattle.mk_column_laws.specs.KeyActs.{ActMove, ActFacts, WasDone, act_at, act_now}
 use Rattle.mk_column_laws.specs.KeyActs.ActMove.{NoAct, ActFetched, ActChecked, ActVoted, ActFinished}
 use Rattle.mk_column_laws.specs.Reading.{ReadsOf, ReadFacts, FetchFacts, ReadsWereGot}
-use Rattle.mk_column_laws.proofs.Lookups.{some_same}
-use Rattle.mk_column_laws.proofs.Growing.{none_some}
 use Rattle.mk_column_laws.proofs.Rounds.{event_facts, event_moves, start_facts, attempts_then}
 use Rattle.mk_column_laws.proofs.ActMoves.{act_moves}
 use Rattle.mk_column_laws.proofs.KeptActs.{acts_older, serves-epoch}
@@ -90,10 +89,10 @@ module _ (taught : Taught) (m next : Moment) (h : Facts taught m) (moves : Moves
     new_reads replica key b there w = by move
       where
         at_home : FetchFacts m (Fetching id replica key) → a.replica ≡ replica
-        at_home z = subst (λ (x : AttemptState). x.replica ≡ replica) (some_same z.0 a (sym z.1 ∙ found)) z.3
+        at_home z = subst (λ (x : AttemptState). x.replica ≡ replica) (same_Some z.0 a (sym z.1 ∙ found)) z.3
 
         reads_now : FetchFacts m (Fetching id replica key) → a.reading ≡ true
-        reads_now z = subst (λ (x : AttemptState). x.reading ≡ true) (some_same z.0 a (sym z.1 ∙ found)) z.2
+        reads_now z = subst (λ (x : AttemptState). x.reading ≡ true) (same_Some z.0 a (sym z.1 ∙ found)) z.2
 
         item_is : (n : ℕ) (answer : Answer) (item : ReadItem) → Among item (read_item n answer) → (item.key ≡ n) × (answer ≡ Version item.version item.value)
         item_is n (Version version value) item (inl e) = (ap (λ (x : ReadItem). x.key) (sym e), λ i. Version ((ap (λ (x : ReadItem). x.version) e) i) ((ap (λ (x : ReadItem). x.value) e) i))
@@ -128,7 +127,7 @@ module _ (taught : Taught) (m next : Moment) (h : Facts taught m) (moves : Moves
                 | inl s ↦ (moves.begun_stays id a found ∙ reading.0 ∙ sym s.0, (λ i. serves a.epoch (slice_get (s.1 i).views a.replica)) ∙ reading.1)
                 | inr s ↦ absurd (let q = s.0 id b there in let q2 : b.reading ≡ true = ap (λ (x : AttemptState). x.reading) is ∙ r2 in cc (q, q2))
               ];
-              txn_reads = λ t e. absurd (none_some a.txn t unstamped e);
+              txn_reads = λ t e. absurd (none-some t (sym unstamped ∙ e));
             })
 
         by : ActMove m next → ReadsOf next id b
@@ -141,14 +140,14 @@ module _ (taught : Taught) (m next : Moment) (h : Facts taught m) (moves : Moves
             let same_id : x ≡ id = cc one in
             let same_r : r ≡ replica = cc one in
             let after = read a (subst (λ (y : TxnId). attempt_of m.column y ≡ Some a) (sym same_id) found) in
-            with_answer r n answer same_r e (some_same b (with_read n answer a) (sym there ∙ (λ i. attempt_of next.column (sym same_id i)) ∙ after))
+            with_answer r n answer same_r e (same_Some b (with_read n answer a) (sym there ∙ (λ i. attempt_of next.column (sym same_id i)) ∙ after))
 
   change_reads : (id : TxnId) (a b : AttemptState) → attempt_of m.column id ≡ Some a → attempt_of next.column id ≡ Some b → AttemptChange m next.column id a b → ReadsOf next id b
   change_reads id a b found there (EndsReading e) = quiet_reads id a found b there (ap (λ (x : AttemptState). x.unread) e) (ap (λ (x : AttemptState). x.replica) e) (ap (λ (x : AttemptState). x.epoch) e) (ap (λ (x : AttemptState). x.reads) e)
       (λ r. absurd (let q : b.reading ≡ false = ap (λ (x : AttemptState). x.reading) e in cc (q, r))) (λ t q. (f.attempts id a found).txn_reads t (sym (ap (λ (x : AttemptState). x.txn) e) ∙ q))
   change_reads id a b found there (Reads replica key answer w e) = new_reads id a found replica key b there w
   change_reads id a b found there (Stamps client clock stamp writes reading fit some c n e) = quiet_reads id a found b there (ap (λ (x : AttemptState). x.unread) e) (ap (λ (x : AttemptState). x.replica) e) (ap (λ (x : AttemptState). x.epoch) e) (ap (λ (x : AttemptState). x.reads) e)
-      (λ r. reading) (λ t q. ap (λ (x : Transaction). x.reads) (some_same t (stamped_txn a stamp writes) (sym q ∙ ap (λ (x : AttemptState). x.txn) e)))
+      (λ r. reading) (λ t q. ap (λ (x : Transaction). x.reads) (same_Some t (stamped_txn a stamp writes) (sym q ∙ ap (λ (x : AttemptState). x.txn) e)))
   change_reads id a b found there (RulesFast o none is e l) = quiet_reads id a found b there (ap (λ (x : AttemptState). x.unread) e) (ap (λ (x : AttemptState). x.replica) e) (ap (λ (x : AttemptState). x.epoch) e) (ap (λ (x : AttemptState). x.reads) e)
       (λ r. sym (ap (λ (x : AttemptState). x.reading) e) ∙ r) (λ t q. (f.attempts id a found).txn_reads t (sym (ap (λ (x : AttemptState). x.txn) e) ∙ q))
   change_reads id a b found there (RulesLearned o none is e) = quiet_reads id a found b there (ap (λ (x : AttemptState). x.unread) e) (ap (λ (x : AttemptState). x.replica) e) (ap (λ (x : AttemptState). x.epoch) e) (ap (λ (x : AttemptState). x.reads) e)
@@ -175,7 +174,7 @@ module _ (taught : Taught) (m next : Moment) (h : Facts taught m) (moves : Moves
         | inl u ↦ absurd (let q = u.1 in cc (q, r))
         | inr serves_it ↦ (moves.begun_now id a none there, (λ i. serves a.epoch (slice_get (s.1 i).views a.replica)) ∙ serves_it)
       ];
-      txn_reads = λ t e. absurd (none_some a.txn t txn e);
+      txn_reads = λ t e. absurd (none-some t (sym txn ∙ e));
     }
   ]
 
@@ -184,10 +183,10 @@ module _ (taught : Taught) (m next : Moment) (h : Facts taught m) (moves : Moves
       let found = sym stays ∙ e in
       quiet_reads id b found b (is ∙ e) refl refl refl refl (λ r. r) (λ t q. (f.attempts id b found).txn_reads t q)
   attempt_reads id new is (AttemptBegins a none n own coord txn reads home) b e =
-      let one = some_same a b (sym n ∙ e) in
+      let one = same_Some a b (sym n ∙ e) in
       subst (ReadsOf next id) one (begins_reads id a none (is ∙ n) txn reads home)
   attempt_reads id new is (AttemptChanges x y was n change) b e =
-      subst (ReadsOf next id) (some_same y b (sym n ∙ e)) (change_reads id x y was (is ∙ n) change)
+      subst (ReadsOf next id) (same_Some y b (sym n ∙ e)) (change_reads id x y was (is ∙ n) change)
 
   fetch_facts : (before new : Work) → WorkMove m next before new → FetchFacts next new
   fetch_facts o n (WorkRests e) = subst (FetchFacts next) (sym e) tt
@@ -221,7 +220,7 @@ module _ (taught : Taught) (stays : StaysTaught taught) where
         where
           by : (o : Option AttemptState) → option_map not_reading o ≡ Some a → a.reading ≡ false
           by None q = absurd (cc q)
-          by (Some x) q = ap (λ (y : AttemptState). y.reading) (sym (some_same (not_reading x) a q))
+          by (Some x) q = ap (λ (y : AttemptState). y.reading) (sym (same_Some (not_reading x) a q))
 
   reads_through : (m : Moment) → Facts taught m → ActFacts m → (events : List Event) → EachHappens taught m events → ReadFacts m → ReadFacts (moment_through m events)
   reads_through m h k [] happens f = f

@@ -2,23 +2,22 @@
 use Rattle.std.proofs.Common.{◌≡◌, ◌≤◌, ◌∙◌, ℕ, ◌+◌, Bool, true, false, refl, arith, inl, inr, sym, ap, subst, List, [], ◌∷◌, Option, Some, None}
 use Rattle.std.specs.Prelude.{◌==◌, slice_get, if◌then◌else◌}
 use Rattle.std.proofs.lemmas.Bool.Decides.{nat_tests}
+use Rattle.std.proofs.lemmas.Option.{none-some, same_Some}
 use Rattle.mk_txn.specs.declared.Conflict.{Conflict}
 use Rattle.mk_txn.specs.declared.Vote.{Vote}
 use Rattle.mk_txn.specs.declared.Vote.TheVariants.{Ok as VoteOk, Abort as VoteAbort}
 use Rattle.mk_txn.specs.declared.Cause.{Cause}
 use Rattle.mk_txn.specs.declared.Outcome.TheVariants.{Abort}
-use Rattle.mk_merge.specs.declared.ReplicaView.{ReplicaView}
-use Rattle.mk_column.specs.ColumnState.Work.{Validating}
-use Rattle.mk_column.specs.Replicas.{serves}
-use Rattle.mk_column.proofs.Frames.{enabled}
+use Rattle.mk_trim.specs.declared.ReplicaView.{ReplicaView}
+use Rattle.mk_model.specs.ColumnState.Work.{Validating}
+use Rattle.mk_model.specs.Replicas.{serves}
+use Rattle.mk_model.proofs.Frames.{enabled}
 use Rattle.mk_column_laws.specs.Moments.{Moment, PastEntry, Taught, StaysTaught, IsReached, Event, CanHappen, EachHappens, moment_through, after_event, step_done, round_begun, first_moment}
 use Rattle.mk_column_laws.specs.Moments.Event.{NewRound, Doing}
 use Rattle.mk_column_laws.specs.Facts.{Facts, WorkFacts}
 use Rattle.mk_column_laws.specs.KeyActs.{ActFacts, IsReleasing, ReleaseReason}
 use Rattle.mk_column_laws.specs.KeyActs.ActMove.{NoAct}
 use Rattle.mk_column_laws.specs.ActLaws.{ActsHold, ActsHaveOrigin, ChecksOfOk, RefusalOfAbort, ReleasesOfOk}
-use Rattle.mk_column_laws.proofs.Lookups.{some_same}
-use Rattle.mk_column_laws.proofs.Growing.{none_some}
 use Rattle.mk_column_laws.proofs.ActMoves.{act_moves}
 use Rattle.mk_column_laws.proofs.KeptActs.{acts_kept}
 use Rattle.mk_column_laws.proofs.Rounds.{event_facts, event_moves, reached_facts, start_facts}
@@ -67,7 +66,7 @@ module _ (taught : Taught) (stays : StaysTaught taught) where
 
 ok_or_abort : (i j : ℕ) (c : Conflict) → ◌≡◌ {A = Option (Vote × ℕ)} (Some (VoteOk, i)) (Some (VoteAbort c, j)) → ⊥
 ok_or_abort i j c e =
-    let pair : (VoteOk, i) ≡ (VoteAbort c, j) = some_same (VoteOk, i) (VoteAbort c, j) e in
+    let pair : (VoteOk, i) ≡ (VoteAbort c, j) = same_Some (VoteOk, i) (VoteAbort c, j) e in
     let vote : VoteOk ≡ VoteAbort c = ap (λ (z : Vote × ℕ). z.0) pair in
     cc vote
 
@@ -90,9 +89,9 @@ releases_of_ok taught stays m reached r id entry i j found vote reason = by reas
     not_releasing : IsReleasing m r id → ⊥
     not_releasing z =
         let f : WorkFacts m (Validating z.0 r z.1.0 z.1.1.0) = subst (WorkFacts m) z.1.1.1.1.0 (reached_facts taught stays m reached).work in
-        let same = some_same _ entry (sym f.0 ∙ (λ k. m.past.entries r (z.1.1.1.1.1 k)) ∙ found) in
+        let same = same_Some _ entry (sym f.0 ∙ (λ k. m.past.entries r (z.1.1.1.1.1 k)) ∙ found) in
         let none : entry.vote ≡ None = ap (λ (x : PastEntry). x.vote) (sym same) in
-        none_some entry.vote (VoteOk, i) none vote
+        none-some (VoteOk, i) (sym none ∙ vote)
 
     by : ReleaseReason m r id entry j → (cause : Cause) × ((k : ℕ) × ((entry.last ≡ Some (Abort cause, k)) × (k ≤ j)))
     by (inl v) = absurd (ok_or_abort i v.1.0 v.0 (sym vote ∙ v.1.1))

@@ -3,19 +3,21 @@ use Rattle.std.proofs.Common.{◌≡◌, ◌⊎◌, ◌<◌, ◌∙◌, ℕ, zer
 use Rattle.std.proofs.lemmas.List.{length-replicate}
 use Rattle.std.specs.Prelude.{find, option_map, length, replicate, slice_set, slice_index_or}
 use Rattle.std.proofs.lemmas.Bool.Decides.{nat_tests}
+use Rattle.std.proofs.lemmas.Bool.{cases_eq}
 use Rattle.mk_lists.specs.Among.{Among, Among-append}
+use Rattle.mk_column_laws.proofs.Resets.{reset_attempts, reset_learned, reset_link, reset_takeovers}
 use Rattle.mk_txn.specs.declared.TxnId.{TxnId}
 use Rattle.mk_txn.specs.Transactions.{same_id}
-use Rattle.mk_record.specs.declared.Entry.{Entry}
-use Rattle.mk_record.specs.Entries.{entry_of}
-use Rattle.mk_msg.specs.declared.Msg.{Msg}
+use Rattle.mk_words.specs.declared.Entry.{Entry}
+use Rattle.mk_words.specs.Entries.{entry_of}
+use Rattle.mk_words.specs.declared.Msg.{Msg}
 use Rattle.mk_quorum.specs.Sizes.{members}
-use Rattle.mk_merge.specs.declared.ReplicaView.{ReplicaView}
-use Rattle.mk_column.specs.declared.Step.{Step}
-use Rattle.mk_column.specs.ColumnState.{ColumnState, AttemptState, Learning, attempt_of, entries_at, is_attempt, is_takeover}
-use Rattle.mk_column.specs.Conditions.{blocked}
-use Rattle.mk_column.specs.Logs.{not_reading, replica_reset}
-use Rattle.mk_column.proofs.Frames.{enabled}
+use Rattle.mk_trim.specs.declared.ReplicaView.{ReplicaView}
+use Rattle.mk_words.specs.declared.Step.{Step}
+use Rattle.mk_model.specs.ColumnState.{ColumnState, AttemptState, Learning, attempt_of, entries_at, is_attempt, is_takeover}
+use Rattle.mk_model.specs.Conditions.{blocked}
+use Rattle.mk_model.specs.Logs.{not_reading, replica_reset}
+use Rattle.mk_model.proofs.Frames.{enabled}
 use Rattle.mk_column_laws.specs.Moments.{Moment, PastEntry, Taught, StaysTaught, IsRound, IsReached, Event, CanHappen, EachHappens, moment_through, after_event, step_done, round_begun, replicas_reset, has_number, first_moment}
 use Rattle.mk_column_laws.specs.Moments.Event.{NewRound, Doing}
 use Rattle.mk_column_laws.specs.Moves.{Moves, AttemptMove, IsMatched, entry_of_past}
@@ -25,7 +27,7 @@ use Rattle.mk_column_laws.specs.Moves.TakeoverMove.{TakeoverStays}
 use Rattle.mk_column_laws.specs.Moves.EntryMove.{EntryStays}
 use Rattle.mk_column_laws.specs.Moves.WorkMove.{WorkRests}
 use Rattle.mk_column_laws.specs.Facts.{Facts}
-use Rattle.mk_column_laws.proofs.SortedEntries.{matched_kept, same_or_not}
+use Rattle.mk_column_laws.proofs.SortedEntries.{matched_kept}
 use Rattle.mk_column_laws.proofs.SortedSteps.{steps_sorted}
 use Rattle.mk_column_laws.proofs.SortedLearnings.{step_moves}
 use Rattle.mk_column_laws.proofs.Growing.{grows}
@@ -57,22 +59,6 @@ module _ (taught : Taught) (stays : StaysTaught taught) (m : Moment) (h : Facts 
 
 -- ---- a round begins
 
-pub reset_attempts : (resets : List ℕ) (c : ColumnState) → (replicas_reset resets c).attempts ≡ c.attempts
-reset_attempts [] c = refl
-reset_attempts (r ∷ resets) c = reset_attempts resets (replica_reset r c)
-
-reset_takeovers : (resets : List ℕ) (c : ColumnState) → (replicas_reset resets c).takeovers ≡ c.takeovers
-reset_takeovers [] c = refl
-reset_takeovers (r ∷ resets) c = reset_takeovers resets (replica_reset r c)
-
-reset_link : (resets : List ℕ) (c : ColumnState) → (replicas_reset resets c).link ≡ c.link
-reset_link [] c = refl
-reset_link (r ∷ resets) c = reset_link resets (replica_reset r c)
-
-reset_learned : (resets : List ℕ) (c : ColumnState) → (replicas_reset resets c).learned ≡ c.learned
-reset_learned [] c = refl
-reset_learned (r ∷ resets) c = reset_learned resets (replica_reset r c)
-
 reset_work : (resets : List ℕ) (c : ColumnState) → (replicas_reset resets c).work ≡ c.work
 reset_work [] c = refl
 reset_work (r ∷ resets) c = reset_work resets (replica_reset r c)
@@ -93,7 +79,7 @@ ResetAt resets c r = (entries_at (replicas_reset resets c) r ≡ entries_at c r)
 
 reset_at : (resets : List ℕ) (c : ColumnState) (r : ℕ) → ResetAt resets c r
 reset_at [] c r = inl refl
-reset_at (q ∷ resets) c r = by (reset_at resets (replica_reset q c) r) (same_or_not r q)
+reset_at (q ∷ resets) c r = by (reset_at resets (replica_reset q c) r) (cases_eq r q)
   where
     named : has_number resets r ≡ true → has_number (q ∷ resets) r ≡ true
     named e = grind (arith, e)
@@ -178,7 +164,7 @@ module _ (taught : Taught) (stays : StaysTaught taught) (m : Moment) (h : Facts 
 
 -- ---- the start, and all events
 
-no_entries : (n r : ℕ) → ◌≡◌ {A = List Entry} (slice_index_or (replicate n []) r []) []
+pub no_entries : (n r : ℕ) → ◌≡◌ {A = List Entry} (slice_index_or (replicate n []) r []) []
 no_entries zero r = refl
 no_entries (suc n) zero = refl
 no_entries (suc n) (suc r) = no_entries n r

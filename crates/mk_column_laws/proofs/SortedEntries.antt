@@ -1,37 +1,40 @@
 -- What each step does to the entries that are remembered, and that records go on to match them.
-use Rattle.std.proofs.Common.{◌≡◌, ◌⊎◌, ◌<◌, ◌≤◌, ◌∙◌, ℕ, Bool, true, false, refl, arith, inl, inr, sym, ap, subst, List, [], ◌∷◌, ◌++◌, Option, Some, None, get_or-set_same, get_or-set_other}
+use Rattle.std.proofs.Common.{◌≡◌, ◌⊎◌, ◌<◌, ◌≤◌, ◌∙◌, ℕ, Bool, true, false, refl, inl, inr, sym, ap, subst, List, [], ◌∷◌, ◌++◌, Option, Some, None, get_or-set_same, get_or-set_other}
 use Rattle.std.specs.Prelude.{option_map, option_and_then, slice_get, slice_set, slice_index_or, is_some, length}
+use Rattle.std.proofs.lemmas.Option.{same_Some}
+use Rattle.std.proofs.lemmas.Bool.{cases_eq}
 use Rattle.mk_lists.specs.Among.{Among}
+use Rattle.mk_words.proofs.EntryLaws.{entry_of-change, entry_of-change_other}
 use Rattle.mk_txn.specs.declared.TxnId.{TxnId}
 use Rattle.mk_txn.specs.declared.Vote.{Vote}
 use Rattle.mk_txn.specs.declared.Outcome.{Outcome}
 use Rattle.mk_txn.specs.Transactions.{Transaction, same_id}
-use Rattle.mk_cell.specs.declared.Answer.{Answer}
-use Rattle.mk_record.specs.declared.Entry.{Entry}
-use Rattle.mk_record.specs.Entries.{opened, entry_of, change_entry, with_vote}
-use Rattle.mk_msg.specs.declared.Msg.{Msg}
-use Rattle.mk_msg.specs.declared.Body.{Body}
-use Rattle.mk_msg.specs.declared.Body.TheVariants.{Voted, Accept, Accepted as AcceptedBody, Decide, Ask, Told as ToldBody, Moved as MovedBody}
+use Rattle.mk_words.specs.declared.Answer.{Answer}
+use Rattle.mk_words.specs.declared.Entry.{Entry}
+use Rattle.mk_words.specs.Entries.{opened, entry_of, change_entry, with_vote}
+use Rattle.mk_words.specs.declared.Msg.{Msg}
+use Rattle.mk_words.specs.declared.Body.{Body}
+use Rattle.mk_words.specs.declared.Body.TheVariants.{Voted, Accept, Accepted as AcceptedBody, Decide, Ask, Told as ToldBody, Moved as MovedBody}
 use Rattle.mk_quorum.specs.Sizes.{members}
 use Rattle.mk_quorum.specs.Slots.{passes}
 use Rattle.mk_txn.specs.Outcomes.{is_ok_vote}
-use Rattle.mk_valid.specs.Checks.{KeyAct, finish_acts}
-use Rattle.mk_valid.specs.Validations.{ValidationState, next_act, after_answer, vote_of}
-use Rattle.mk_column.specs.declared.Step.{Step}
-use Rattle.mk_column.specs.ColumnState.{ColumnState, AttemptState, attempt_of, entries_at}
-use Rattle.mk_column.specs.ColumnState.Work.{Idle, Validating}
-use Rattle.mk_trim.specs.KeptOutcomes.{known_of}
-use Rattle.mk_column.specs.Replicas.{Reaction, reply, told_of, reaction_by_view, reacted, serves, held_at, finishing}
-use Rattle.mk_column.specs.Learnings.{learned_in_step, txn_of}
-use Rattle.mk_column.specs.Steps.{replica_takes, validated, voted_msg}
+use Rattle.mk_txn.proofs.IdOrder.{same_id-tells}
+use Rattle.mk_words.specs.Checks.{KeyAct, finish_acts}
+use Rattle.mk_words.specs.Validations.{ValidationState, next_act, after_answer, vote_of}
+use Rattle.mk_words.specs.declared.Step.{Step}
+use Rattle.mk_model.specs.ColumnState.{ColumnState, AttemptState, attempt_of, entries_at}
+use Rattle.mk_model.specs.ColumnState.Work.{Idle, Validating}
+use Rattle.mk_words.specs.KeptOutcomes.{known_of}
+use Rattle.mk_model.specs.Replicas.{Reaction, reply, told_of, reaction_by_view, reacted, serves, held_at, finishing}
+use Rattle.mk_model.specs.Learnings.{learned_in_step, txn_of}
+use Rattle.mk_model.specs.Steps.{replica_takes, validated, voted_msg}
 use Rattle.mk_column_laws.specs.Moments.{Moment, PastEntry, Taught, remembered, remembered_from, past_after}
-use Rattle.mk_column.specs.Sending.{Sent, msg_of}
+use Rattle.mk_model.specs.Sending.{Sent, msg_of}
 use Rattle.mk_column_laws.specs.Moves.{undated, EntryMove, Newborn, WorkMove, IsStampedIn, ServesAttempt, IsMatched, past_opened, past_or_opened, entry_of_past}
 use Rattle.mk_column_laws.specs.Moves.EntryMove.{EntryStays, EntryOpens, EntryVotes, EntryPromises, EntryAccepts, EntryFinishes}
 use Rattle.mk_column_laws.specs.Moves.Newborn.{VoteSent, AcceptedSent, FinalToldSent, PromiseSent, MovedSent}
 use Rattle.mk_column_laws.specs.Moves.WorkMove.{WorkRests, WorkEnds, WorkValidates}
 use Rattle.mk_column_laws.specs.Facts.{Facts, WorkFacts}
-use Rattle.mk_column_laws.proofs.Lookups.{same_id-tells, some_same, entry_of-change, entry_of-change_other}
 use Rattle.mk_column_laws.proofs.Histories.{remembered-same, matched-stays, remembered-promise, remembered-accepted, remembered-last, undated-none, undated-some}
 use Rattle.mk_column_laws.proofs.Reactions.{ReactionKind, view_reacts}
 use Rattle.mk_column_laws.proofs.Reactions.ReactionKind.{Quiet, BeginsValidation, VotesAgain, TellsFinal, PromisesView, AcceptsOutcome, Finishes, TellsMoved}
@@ -60,9 +63,6 @@ txn_of-some column id txn e = by (attempt_of column id) refl e
     by None is k = absurd (cc k)
     by (Some a) is k = (a, is, k)
 
-pub same_or_not : (a b : ℕ) → (a ≡ b) ⊎ (a ≡ b → ⊥)
-same_or_not a b = grind arith
-
 -- a record goes on to match where its entry and what is remembered of it stay
 pub matched_kept : (m next : Moment) (q : ℕ) (id : TxnId) →
     entry_of id (entries_at next.column q) ≡ entry_of id (entries_at m.column q) → next.past.entries q id ≡ m.past.entries q id →
@@ -75,9 +75,6 @@ matched_kept m next q id same stays left attempts (inr k) =
     inr (same ∙ k.0, (b.0, b.1, subst (λ (n : ℕ). next.past.has_left q n ≡ true) (sym b.2) (left k.1.0.epoch k.1.2)))
 
 module _ (taught : Taught) (m : Moment) (h : Facts taught m) (step : Step) where
-  abbrev pub EntriesSorted : ColumnState → Type 0
-  EntriesSorted c = (r : ℕ) (id : TxnId) → EntryMove m (moment_with m step c) r id (m.past.entries r id) (remembered m.past.now (m.past.entries r id) (entry_of id (entries_at c r)))
-
   -- records that nothing touches
   pub entries_stay : (r : ℕ) (id : TxnId) → remembered m.past.now (m.past.entries r id) (entry_of id (entries_at m.column r)) ≡ m.past.entries r id
   entries_stay r id = matched-stays m r id (h.matched r id)
@@ -115,7 +112,7 @@ module _ (taught : Taught) (m : Moment) (h : Facts taught m) (step : Step) where
     pub the_epoch : (a : AttemptState) → attempt_of m.column msg.id ≡ Some a → a.epoch ≡ msg.epoch
     the_epoch a e =
         let s = (h.messages msg among).0 in
-        ap (λ (x : AttemptState). x.epoch) (some_same a s.attempt (sym e ∙ s.found)) ∙ s.same_epoch
+        ap (λ (x : AttemptState). x.epoch) (same_Some a s.attempt (sym e ∙ s.found)) ∙ s.same_epoch
 
     pub serves_it : serves msg.epoch (slice_get m.round.views msg.replica) ≡ true → ServesAttempt m msg.replica msg.id txn
     serves_it served =
@@ -182,7 +179,7 @@ module _ (taught : Taught) (m : Moment) (h : Facts taught m) (step : Step) where
           (EntryFinishes txn msg.view outcome (serves_it served) (sent_as m.column.link msg (Decide outcome) among body) none k.0 idle, inl k.1)
 
       pub reacted_sorted : (q : ℕ) (id : TxnId) → EntrySorted (reacted msg.replica re m.column) q id
-      reacted_sorted q id = by (same_or_not q msg.replica) (same_id msg.id id) refl
+      reacted_sorted q id = by (cases_eq q msg.replica) (same_id msg.id id) refl
         where
           by : (q ≡ msg.replica) ⊎ (q ≡ msg.replica → ⊥) → (b : Bool) → same_id msg.id id ≡ b → EntrySorted (reacted msg.replica re m.column) q id
           by (inl e) true t =
@@ -316,7 +313,7 @@ module _ (taught : Taught) (m : Moment) (h : Facts taught m) (step : Step) where
         by (inr k) =
             let s = facts.1.0 in
             let stayed = h.round.tenure r s.attempt.epoch s.served in
-            let left = subst (λ (a : AttemptState). m.past.has_left r a.epoch ≡ true) (some_same k.1.0 s.attempt (sym k.1.1 ∙ s.found)) k.1.2 in
+            let left = subst (λ (a : AttemptState). m.past.has_left r a.epoch ≡ true) (same_Some k.1.0 s.attempt (sym k.1.1 ∙ s.found)) k.1.2 in
             absurd (cc (stayed, left))
 
     vote_here : (w : Vote) (c : ColumnState) → c.records ≡ slice_set m.column.records r (change_entry txn.id (with_vote w) (entries_at m.column r)) → entry_of txn.id (entries_at c r) ≡ Some (with_vote w (opened txn))
@@ -335,7 +332,7 @@ module _ (taught : Taught) (m : Moment) (h : Facts taught m) (step : Step) where
 
     pub validated_sorted : (next : Option KeyAct) → next_act (after_answer state answer) ≡ next → (q : ℕ) (id : TxnId) → EntrySorted (validated txn r ep (after_answer state answer) next m.column) q id
     validated_sorted (Some act) is q id = entry_untouched (validated txn r ep (after_answer state answer) (Some act) m.column) q id refl
-    validated_sorted None is q id = by (same_or_not q r) (same_id txn.id id) refl
+    validated_sorted None is q id = by (cases_eq q r) (same_id txn.id id) refl
       where
         c : ColumnState
         c = validated txn r ep (after_answer state answer) None m.column

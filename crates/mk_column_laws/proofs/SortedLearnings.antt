@@ -1,36 +1,39 @@
 -- What is learned in each step, with its reason; and all that a step does.
 use Rattle.std.proofs.Common.{◌≡◌, ◌∙◌, ℕ, true, refl, arith, inl, inr, sym, ap, subst, List, [], ◌∷◌, Option, Some, None}
 use Rattle.std.specs.Prelude.{option_map, find, is_none, is_some, if◌then◌else◌}
+use Rattle.std.proofs.lemmas.Bool.{cond_both}
 use Rattle.mk_quorum.specs.Slots.{passes}
 use Rattle.mk_lists.specs.Among.{Among, Among-append, Among-append_left}
 use Rattle.mk_lists.specs.Changed.{change}
+use Rattle.mk_lists.proofs.Changes.{find-change}
+use Rattle.mk_lists.proofs.Options.{None-from_is_none}
+use Rattle.mk_model.proofs.Parts.{attempt_of-id, attempt_of-own}
 use Rattle.mk_txn.specs.declared.TxnId.{TxnId}
 use Rattle.mk_txn.specs.declared.Outcome.{Outcome}
-use Rattle.mk_msg.specs.declared.Msg.{Msg}
-use Rattle.mk_msg.specs.declared.Body.{Body}
-use Rattle.mk_msg.specs.declared.Body.TheVariants.{Decide, Told as ToldBody, Moved as MovedBody}
-use Rattle.mk_msg.specs.Links.{message}
-use Rattle.mk_coord.specs.declared.Ruling.{Ruling}
-use Rattle.mk_coord.specs.declared.Ruling.TheVariants.{Fast, Propose, Learned, Short, Unaccepted}
-use Rattle.mk_coord.specs.Rulings.{ruling}
-use Rattle.mk_takeover.specs.declared.Pick.{Pick}
-use Rattle.mk_takeover.specs.declared.Pick.TheVariants.{Known, Learned as PickLearned, Propose as PickPropose, Short as PickShort, Unaccepted as PickUnaccepted, Unclear}
-use Rattle.mk_takeover.specs.Picks.{pick}
-use Rattle.mk_column.specs.declared.Step.{Step}
-use Rattle.mk_column.specs.declared.Step.TheVariants.{Take, Rule, Pick as PickStep}
-use Rattle.mk_column.specs.ColumnState.{AttemptState, TakeoverOf, Learning, Way, attempt_of, takeover_of, is_attempt}
-use Rattle.mk_column.specs.ColumnState.Way.{ByMoved, ByTelling, ByFinishing}
-use Rattle.mk_column.specs.Conditions.{conditions, blocked}
-use Rattle.mk_column.specs.Answers.{moved_outcome}
-use Rattle.mk_column.specs.Learnings.{learning, learning_of, by_rule, by_ruling, by_takeover, by_pick, by_taken, by_message, is_finished_by, is_heard, learned_in_step}
-use Rattle.mk_column.specs.Steps.{ruled, taught as having_learned, on_some}
-use Rattle.mk_column.proofs.Frames.{AllTrue, either_way, enabled}
+use Rattle.mk_words.specs.declared.Msg.{Msg}
+use Rattle.mk_words.specs.declared.Body.{Body}
+use Rattle.mk_words.specs.declared.Body.TheVariants.{Decide, Told as ToldBody, Moved as MovedBody}
+use Rattle.mk_words.specs.Links.{message}
+use Rattle.mk_words.specs.declared.Ruling.{Ruling}
+use Rattle.mk_words.specs.declared.Ruling.TheVariants.{Fast, Propose, Learned, Short, Unaccepted}
+use Rattle.mk_words.specs.Rulings.{ruling}
+use Rattle.mk_words.specs.declared.Pick.{Pick}
+use Rattle.mk_words.specs.declared.Pick.TheVariants.{Known, Learned as PickLearned, Propose as PickPropose, Short as PickShort, Unaccepted as PickUnaccepted, Unclear}
+use Rattle.mk_words.specs.Picks.{pick}
+use Rattle.mk_words.specs.declared.Step.{Step}
+use Rattle.mk_words.specs.declared.Step.TheVariants.{Take, Rule, Pick as PickStep}
+use Rattle.mk_model.specs.ColumnState.{AttemptState, TakeoverOf, Learning, Way, attempt_of, takeover_of, is_attempt}
+use Rattle.mk_model.specs.ColumnState.Way.{ByMoved, ByTelling, ByFinishing}
+use Rattle.mk_model.specs.Conditions.{conditions, blocked}
+use Rattle.mk_model.specs.Answers.{moved_outcome}
+use Rattle.mk_model.specs.Learnings.{learning, learning_of, by_rule, by_ruling, by_takeover, by_pick, by_taken, by_message, is_finished_by, is_heard, learned_in_step}
+use Rattle.mk_model.specs.Steps.{ruled, taught as having_learned, on_some}
+use Rattle.mk_model.proofs.Frames.{AllTrue, enabled}
 use Rattle.mk_column_laws.specs.Moments.{Moment, Taught, step_done}
 use Rattle.mk_column_laws.specs.Moves.{Moves, NewLearning}
 use Rattle.mk_column_laws.specs.Moves.NewLearning.{LearnsFast, LearnsByAccepts, LearnsKnown, LearnsByPick, LearnsTold, LearnsMoved, LearnsFinishing}
 use Rattle.mk_column_laws.specs.Facts.{Facts}
-use Rattle.mk_column_laws.proofs.Lookups.{find-change, none_from}
-use Rattle.mk_column_laws.proofs.SortedAttempts.{attempt_id, own_number, message_among, attempts_sorted}
+use Rattle.mk_column_laws.proofs.SortedAttempts.{message_among, attempts_sorted}
 use Rattle.mk_column_laws.proofs.SortedTakeovers.{takeovers_sorted}
 use Rattle.mk_column_laws.proofs.SortedEntries.{sent_as}
 use Rattle.mk_column_laws.proofs.SortedSteps.{steps_sorted}
@@ -43,13 +46,13 @@ module _ (m : Moment) where
   ruled_attempt : (id : TxnId) (a : AttemptState) (o : Outcome) → attempt_of m.column id ≡ Some a → ruling m.round.faults a.coord ≡ Fast o →
       attempt_of (step_done (Rule id) m).column id ≡ Some (having_learned o a)
   ruled_attempt id a o e is =
-      let same = attempt_id m.column id a e in
+      let same = attempt_of-id m.column id a e in
       let to_a : attempt_of (step_done (Rule id) m).column id ≡ find (is_attempt id) (ruled m.round.faults a (ruling m.round.faults a.coord) m.column).attempts =
       ap (λ (x : Option AttemptState). find (is_attempt id) (on_some (λ b col. ruled m.round.faults b (ruling m.round.faults b.coord) col) x m.column).attempts) e in
       let to_fast : find (is_attempt id) (ruled m.round.faults a (ruling m.round.faults a.coord) m.column).attempts ≡ find (is_attempt id) (change (is_attempt a.id) (having_learned o) m.column.attempts) =
       ap (λ (r : Ruling). find (is_attempt id) (ruled m.round.faults a r m.column).attempts) is in
       let changed : find (is_attempt a.id) (change (is_attempt a.id) (having_learned o) m.column.attempts) ≡ Some (having_learned o a) =
-      find-change (is_attempt a.id) (having_learned o) m.column.attempts (λ x. refl) ∙ ap (option_map (having_learned o)) (own_number m.column id a e) in
+      find-change (is_attempt a.id) (having_learned o) m.column.attempts (λ x. refl) ∙ ap (option_map (having_learned o)) (attempt_of-own m.column id a e) in
       to_a ∙ to_fast ∙ subst (λ (x : TxnId). find (is_attempt x) (change (is_attempt a.id) (having_learned o) m.column.attempts) ≡ Some (having_learned o a)) same changed
 
   by_rule_right : (id : TxnId) (a : AttemptState) (r : Ruling) → attempt_of m.column id ≡ Some a → a.coord.learned ≡ None → ruling m.round.faults a.coord ≡ r →
@@ -85,17 +88,11 @@ module _ (m : Moment) where
 
     by_message_right : (b : Body) → msg.body ≡ b → (l : Learning) → Among l (by_message m.round m.column msg b) → LearnsRight (Take number) l
     by_message_right (Decide o) is l =
-        either_way (λ (xs : List Learning). Among l xs → LearnsRight (Take number) l) (is_finished_by m.round m.column msg) _ _
-        (λ _ among. one_right msg.id ByFinishing o (LearnsFinishing msg.replica msg.view refl (sent_as m.column.link msg (Decide o) sent is)) l among)
-        (λ _ among. absurd among)
+        cond_both (is_finished_by m.round m.column msg) _ _ (λ (xs : List Learning). Among l xs → LearnsRight (Take number) l) (λ _ among. one_right msg.id ByFinishing o (LearnsFinishing msg.replica msg.view refl (sent_as m.column.link msg (Decide o) sent is)) l among) (λ _ among. absurd among)
     by_message_right (ToldBody told) is l =
-        either_way (λ (xs : List Learning). Among l xs → LearnsRight (Take number) l) (is_heard m.round m.column msg) _ _
-        (λ _ among. learning_right msg.id ByTelling told.last (λ x e. LearnsTold msg.replica msg.view told refl (sent_as m.column.link msg (ToldBody told) sent is) e) l among)
-        (λ _ among. absurd among)
+        cond_both (is_heard m.round m.column msg) _ _ (λ (xs : List Learning). Among l xs → LearnsRight (Take number) l) (λ _ among. learning_right msg.id ByTelling told.last (λ x e. LearnsTold msg.replica msg.view told refl (sent_as m.column.link msg (ToldBody told) sent is) e) l among) (λ _ among. absurd among)
     by_message_right (MovedBody moved) is l =
-        either_way (λ (xs : List Learning). Among l xs → LearnsRight (Take number) l) (is_heard m.round m.column msg) _ _
-        (λ _ among. learning_right msg.id (ByMoved moved.to) (moved_outcome moved) (λ x e. LearnsMoved msg.replica msg.view moved refl (sent_as m.column.link msg (MovedBody moved) sent is) e) l among)
-        (λ _ among. absurd among)
+        cond_both (is_heard m.round m.column msg) _ _ (λ (xs : List Learning). Among l xs → LearnsRight (Take number) l) (λ _ among. learning_right msg.id (ByMoved moved.to) (moved_outcome moved) (λ x e. LearnsMoved msg.replica msg.view moved refl (sent_as m.column.link msg (MovedBody moved) sent is) e) l among) (λ _ among. absurd among)
     by_message_right _ is l = λ among. absurd among
 
   learned_right : (step : Step) → AllTrue (conditions m.round m.column step) → (l : Learning) → Among l (learned_in_step m.round m.column step) → LearnsRight step l
@@ -104,7 +101,7 @@ module _ (m : Moment) where
       by : (o : Option AttemptState) → attempt_of m.column id ≡ o → passes (λ (a : AttemptState). is_none a.coord.learned) o ≡ true →
           Among l (by_rule m.round id o) → LearnsRight (Rule id) l
       by None e t among = absurd among
-      by (Some a) e t among = by_rule_right id a (ruling m.round.faults a.coord) e (none_from a.coord.learned t) refl l among
+      by (Some a) e t among = by_rule_right id a (ruling m.round.faults a.coord) e (None-from_is_none a.coord.learned t) refl l among
   learned_right (PickStep id view) c l = by (takeover_of m.column id view) refl
     where
       by : (o : Option TakeoverOf) → takeover_of m.column id view ≡ o → Among l (by_takeover m.round id view o) → LearnsRight (PickStep id view) l

@@ -1,52 +1,59 @@
 -- What each step does to entries, messages and key calls, and what is learned in it.
-use Rattle.std.proofs.Common.{◌≡◌, ◌⊎◌, ◌<◌, ◌≤◌, ◌∙◌, ℕ, zero, suc, ◌+◌, Bool, true, false, refl, arith, inl, inr, sym, ap, subst, List, [], ◌∷◌, ◌++◌, Option, Some, None, length-set, map}
+use Rattle.std.proofs.Common.{◌≡◌, ◌<◌, ◌≤◌, ◌∙◌, ℕ, zero, suc, ◌+◌, true, false, refl, arith, inl, inr, sym, ap, subst, List, [], ◌∷◌, ◌++◌, Option, Some, None, length-set, map}
 use Rattle.std.specs.Prelude.{option_map, find, is_some, is_none, ◌==◌, slice_index_or, length}
 use Rattle.std.proofs.lemmas.Bool.Decides.{nat_tests}
 use Rattle.std.specs.List.{list_any}
+use Rattle.std.proofs.lemmas.Bool.{and_parts, cond_both}
+use Rattle.std.proofs.lemmas.Option.{same_Some}
 use Rattle.mk_lists.specs.Among.{Among, Among-append_right}
 use Rattle.mk_lists.specs.Changed.{change}
+use Rattle.mk_lists.proofs.Tests.{Among-from_list_any}
+use Rattle.mk_lists.proofs.Options.{None-from_is_none}
+use Rattle.mk_lists.proofs.Changes.{find-change}
+use Rattle.mk_lists.proofs.Lookups.{find_push}
+use Rattle.mk_model.proofs.Parts.{attempt_of-id, attempt_of-own}
 use Rattle.mk_txn.specs.declared.TxnId.{TxnId}
 use Rattle.mk_txn.specs.declared.Stamp.{Stamp as StampType}
 use Rattle.mk_txn.specs.declared.WriteItem.{WriteItem}
 use Rattle.mk_txn.specs.declared.Outcome.{Outcome}
 use Rattle.mk_txn.specs.Stamps.{next_stamp_of}
 use Rattle.mk_txn.specs.Transactions.{Transaction, same_id}
-use Rattle.mk_txn.proofs.ClashFacts.{member-from_list_any}
-use Rattle.mk_cell.specs.declared.Answer.{Answer}
-use Rattle.mk_record.specs.declared.Entry.{Entry}
-use Rattle.mk_record.specs.Entries.{entry_of}
-use Rattle.mk_msg.specs.declared.Msg.{Msg}
-use Rattle.mk_msg.specs.declared.Body.{Body}
-use Rattle.mk_msg.specs.declared.Body.TheVariants.{Validate as ValidateBody, Accept, Decide, Ask}
-use Rattle.mk_msg.specs.Links.{message, goes_to_replica}
+use Rattle.mk_txn.proofs.IdOrder.{same_id-itself, same_id-tells}
+use Rattle.mk_words.specs.declared.Answer.{Answer}
+use Rattle.mk_words.specs.declared.Entry.{Entry}
+use Rattle.mk_words.specs.Entries.{entry_of}
+use Rattle.mk_words.specs.declared.Msg.{Msg}
+use Rattle.mk_words.specs.declared.Body.{Body}
+use Rattle.mk_words.specs.declared.Body.TheVariants.{Validate as ValidateBody, Accept, Decide, Ask}
+use Rattle.mk_words.specs.Links.{message, goes_to_replica}
 use Rattle.mk_quorum.specs.Sizes.{members}
-use Rattle.mk_coord.specs.declared.Ruling.{Ruling}
-use Rattle.mk_coord.specs.declared.Ruling.TheVariants.{Fast, Propose, Learned, Short, Unaccepted}
-use Rattle.mk_coord.specs.Rulings.{ruling}
-use Rattle.mk_takeover.specs.declared.Pick.{Pick}
-use Rattle.mk_takeover.specs.declared.Pick.TheVariants.{Known, Learned as PickLearned, Propose as PickPropose, Short as PickShort, Unaccepted as PickUnaccepted, Unclear}
-use Rattle.mk_takeover.specs.Picks.{pick, new_takeover}
-use Rattle.mk_valid.specs.Checks.{KeyAct}
-use Rattle.mk_valid.specs.Validations.{ValidationState, next_act, after_answer}
-use Rattle.mk_column.specs.declared.Step.{Step}
-use Rattle.mk_column.specs.declared.Step.TheVariants.{Begin, Unread, Read, Stamp, Validate, Take, Key, Rule, Again, Takeover, Pick as PickStep, Stop}
-use Rattle.mk_column.specs.ColumnState.{ColumnState, AttemptState, TakeoverOf, Work, Learning, attempt_of, takeover_of, client_of, is_attempt, is_takeover, to_all, numbers_from, mark_sent, send}
-use Rattle.mk_column.specs.ColumnState.Work.{Idle, Fetching, Validating, Finishing}
-use Rattle.mk_column.specs.ColumnState.Way.{ByVotes}
-use Rattle.mk_column.specs.Conditions.{conditions, is_idle, is_validate_of, may_read}
-use Rattle.mk_column.specs.Replicas.{finishing}
-use Rattle.mk_column.specs.Answers.{listens, is_led}
-use Rattle.mk_column.specs.Learnings.{learning, txn_of, by_rule, by_ruling, learned_in_step}
-use Rattle.mk_column.specs.Steps.{stepped, stamped, ruled, picked, proposing, taught as having_learned, takeover_proposing, taken, replica_takes, answered, validated, taken_over}
-use Rattle.mk_column.proofs.Frames.{AllTrue, on_some-keeps, either_way}
+use Rattle.mk_quorum.proofs.Slots.{passes-at}
+use Rattle.mk_words.specs.declared.Ruling.{Ruling}
+use Rattle.mk_words.specs.declared.Ruling.TheVariants.{Fast, Propose, Learned, Short, Unaccepted}
+use Rattle.mk_words.specs.Rulings.{ruling}
+use Rattle.mk_words.specs.declared.Pick.{Pick}
+use Rattle.mk_words.specs.declared.Pick.TheVariants.{Known, Learned as PickLearned, Propose as PickPropose, Short as PickShort, Unaccepted as PickUnaccepted, Unclear}
+use Rattle.mk_words.specs.Picks.{pick, new_takeover}
+use Rattle.mk_words.specs.Checks.{KeyAct}
+use Rattle.mk_words.specs.Validations.{ValidationState, next_act, after_answer}
+use Rattle.mk_words.specs.declared.Step.{Step}
+use Rattle.mk_words.specs.declared.Step.TheVariants.{Begin, Unread, Read, Stamp, Validate, Take, Key, Rule, Again, Takeover, Pick as PickStep, Stop}
+use Rattle.mk_model.specs.ColumnState.{ColumnState, AttemptState, TakeoverOf, Work, Learning, attempt_of, takeover_of, client_of, is_attempt, is_takeover, to_all, numbers_from, mark_sent, send}
+use Rattle.mk_model.specs.ColumnState.Work.{Idle, Fetching, Validating, Finishing}
+use Rattle.mk_model.specs.ColumnState.Way.{ByVotes}
+use Rattle.mk_model.specs.Conditions.{conditions, is_idle, is_validate_of, may_read}
+use Rattle.mk_model.specs.Replicas.{finishing}
+use Rattle.mk_model.specs.Answers.{listens, is_led}
+use Rattle.mk_model.specs.Learnings.{learning, txn_of, by_rule, by_ruling, learned_in_step}
+use Rattle.mk_model.specs.Steps.{stepped, stamped, ruled, picked, proposing, taught as having_learned, takeover_proposing, taken, replica_takes, answered, validated, taken_over}
+use Rattle.mk_model.proofs.Frames.{AllTrue, on_some-keeps}
 use Rattle.mk_column_laws.specs.Moments.{Moment, Taught}
-use Rattle.mk_column.specs.Sending.{msg_of}
+use Rattle.mk_model.specs.Sending.{msg_of}
 use Rattle.mk_column_laws.specs.Moves.{Newborn, WorkMove, IsStampedIn}
 use Rattle.mk_column_laws.specs.Moves.Newborn.{ValidateSent, AskSent, ProposalSent, FastSent, LearnedSent, KnownSent, PickSent}
 use Rattle.mk_column_laws.specs.Moves.WorkMove.{WorkRests, WorkFetches, WorkGoesOn, WorkFinishes}
 use Rattle.mk_column_laws.specs.Facts.{Facts}
-use Rattle.mk_column_laws.proofs.Lookups.{same_id-itself, same_id-tells, and_right, some_same, there, none_from, find-change, find-pushed}
-use Rattle.mk_column_laws.proofs.SortedAttempts.{attempt_id, own_number, message_among}
+use Rattle.mk_column_laws.proofs.SortedAttempts.{message_among}
 use Rattle.mk_column_laws.proofs.SortedEntries.{moment_with, EntrySorted, entry_untouched, entries_stay, replica_sorted, replica_sends, replica_works, validated_sorted, validated_sends}
 
 pub idle_from : (w : Work) → is_idle w ≡ true → w ≡ Idle
@@ -66,11 +73,6 @@ pub among_all : (f ep : ℕ) (id : TxnId) (v : ℕ) (b : Body) (msg : Msg) → A
 among_all f ep id v b msg a = let m = among_numbered (members f) 0 ep id v b msg a in (m.0, omega (arith, m.1), m.2)
 
 module _ (taught : Taught) (m : Moment) (h : Facts taught m) (step : Step) where
-  -- a message was there, or is sent for a reason
-  abbrev pub SentSorted : ColumnState → Msg → Type 0
-  SentSorted c msg =
-      Among msg m.column.link ⊎ ((msg.replica < members m.round.faults) × IsStampedIn (moment_with m step c) msg.id msg.epoch × Newborn m (moment_with m step c) msg)
-
   pub record StepSorted (c : ColumnState) : Type 0 where
     pub entries : (r : ℕ) (id : TxnId) → EntrySorted taught m h step c r id
     pub link : List Msg
@@ -158,7 +160,7 @@ module _ (taught : Taught) (m : Moment) (h : Facts taught m) (step : Step) where
         let passes : is_takeover a.id view new ≡ true = (let k = same_id-itself a.id in grind (arith, nat_tests, k)) in
         sends_all (taken_over m.round.faults view a m.column) a.epoch a.id view Ask refl refl refl
         (record { attempt = a; found = e; stamped = txn; same_epoch = refl })
-        (λ r. AskSent new refl from_one (find-pushed (is_takeover a.id view) m.column.takeovers new none passes))
+        (λ r. AskSent new refl from_one (find_push (is_takeover a.id view) m.column.takeovers new none passes))
 
     changed_takeover : (id : TxnId) (view : ℕ) (t : TakeoverOf) (g : TakeoverOf → TakeoverOf) → ((x : TakeoverOf) → is_takeover id view (g x) ≡ is_takeover id view x) → takeover_of m.column id view ≡ Some t →
         find (is_takeover id view) (change (is_takeover id view) g m.column.takeovers) ≡ Some (g t)
@@ -182,8 +184,7 @@ module _ (taught : Taught) (m : Moment) (h : Facts taught m) (step : Step) where
 
     taken_sorted : (msg : Msg) → Among msg m.column.link → StepSorted (taken m.round msg m.column)
     taken_sorted msg among =
-        either_way StepSorted (goes_to_replica msg.body) _ _
-        (λ _. on_some-keeps StepSorted (replica_takes m.round msg) (txn_of m.column msg.id) m.column
+        cond_both (goes_to_replica msg.body) _ _ StepSorted (λ _. on_some-keeps StepSorted (replica_takes m.round msg) (txn_of m.column msg.id) m.column
         (λ txn e. record {
           entries = replica_sorted taught m h step msg among txn e idle;
           link = _;
@@ -191,10 +192,7 @@ module _ (taught : Taught) (m : Moment) (h : Facts taught m) (step : Step) where
           messages = replica_sends taught m h step msg among txn e idle;
           work = replica_works taught m h step msg among txn e idle;
           sized = length-set m.column.records msg.replica _;
-        }) stays)
-        (λ _. either_way StepSorted (msg.view == 0) _ _
-        (λ _. either_way StepSorted (listens (attempt_of m.column msg.id)) _ _ (λ _. untouched _ refl refl (WorkRests idle)) (λ _. stays))
-        (λ _. either_way StepSorted (is_led m.round msg.epoch msg.view) _ _ (λ _. untouched _ refl refl (WorkRests idle)) (λ _. stays)))
+        }) stays) (λ _. cond_both (msg.view == 0) _ _ StepSorted (λ _. cond_both (listens (attempt_of m.column msg.id)) _ _ StepSorted (λ _. untouched _ refl refl (WorkRests idle)) (λ _. stays)) (λ _. cond_both (is_led m.round msg.epoch msg.view) _ _ StepSorted (λ _. untouched _ refl refl (WorkRests idle)) (λ _. stays)))
 
   validating_sorted : (answer : Answer) (txn : Transaction) (r ep : ℕ) (state : ValidationState) (next : Option KeyAct) → m.column.work ≡ Validating txn r ep state →
       next_act (after_answer state answer) ≡ next → StepSorted (validated txn r ep (after_answer state answer) next m.column)
@@ -236,20 +234,17 @@ module _ (taught : Taught) (m : Moment) (h : Facts taught m) (step : Step) where
       subst (λ (l : List Learning). Among (learning a.id ByVotes o) l) (sym rule) (inl (ap (λ (x : TxnId). learning x ByVotes o) (sym same)))
 
 module _ (taught : Taught) (m : Moment) (h : Facts taught m) where
-  first_idle : {b : Bool} (w : Work) → is_idle w ≡ b → b ≡ true → w ≡ Idle
-  first_idle w e t = idle_from w (e ∙ t)
-
   by_view : (id : TxnId) (view : ℕ) (a : AttemptState) (t : TakeoverOf) → takeover_of m.column id view ≡ Some t → attempt_of m.column id ≡ Some a → is_some a.txn ≡ true
   by_view id view a t e k =
       let b = (h.takeovers id view t e).begun in
-      subst (λ (x : AttemptState). is_some x.txn ≡ true) (some_same b.0 a (sym b.1 ∙ k)) b.2
+      subst (λ (x : AttemptState). is_some x.txn ≡ true) (same_Some b.0 a (sym b.1 ∙ k)) b.2
 
   from_validate : (id : TxnId) (a : AttemptState) → list_any (is_validate_of id) m.column.link ≡ true → attempt_of m.column id ≡ Some a → is_some a.txn ≡ true
   from_validate id a any e =
-      let msg = member-from_list_any (is_validate_of id) m.column.link any in
+      let msg = Among-from_list_any (is_validate_of id) m.column.link any in
       let s = (h.messages msg.0 msg.1).0 in
-      let same : msg.0.id ≡ id = same_id-tells msg.0.id id (and_right _ _ msg.2) in
-      subst (λ (x : AttemptState). is_some x.txn ≡ true) (some_same s.attempt a (sym s.found ∙ ap (λ (x : TxnId). attempt_of m.column x) same ∙ e)) s.stamped
+      let same : msg.0.id ≡ id = same_id-tells msg.0.id id (and_parts _ _ msg.2).1 in
+      subst (λ (x : AttemptState). is_some x.txn ≡ true) (same_Some s.attempt a (sym s.found ∙ ap (λ (x : TxnId). attempt_of m.column x) same ∙ e)) s.stamped
 
   pub steps_sorted : (step : Step) → AllTrue (conditions m.round m.column step) → StepSorted taught m h step (stepped m.round m.column step)
   steps_sorted (Begin client replica) c =
@@ -261,8 +256,8 @@ module _ (taught : Taught) (m : Moment) (h : Facts taught m) where
   steps_sorted (Read id key) c =
       let step = Read id key in
       on_some-keeps (StepSorted taught m h step) _ (attempt_of m.column id) m.column
-      (λ a e. untouched taught m h step _ refl refl (WorkFetches id a.replica key a e e (there (λ (x : AttemptState). x.reading) (attempt_of m.column id) a e c.1.0) c.1.1.0
-      (there (may_read key) (attempt_of m.column id) a e c.1.1.1.0) refl (idle_from m.column.work c.0) refl)) (stays taught m h step (idle_from m.column.work c.0))
+      (λ a e. untouched taught m h step _ refl refl (WorkFetches id a.replica key a e e (passes-at (λ (x : AttemptState). x.reading) (attempt_of m.column id) a e c.1.0) c.1.1.0
+      (passes-at (may_read key) (attempt_of m.column id) a e c.1.1.1.0) refl (idle_from m.column.work c.0) refl)) (stays taught m h step (idle_from m.column.work c.0))
   steps_sorted (Stamp id clock writes) c =
       let step = Stamp id clock writes in
       on_some-keeps (StepSorted taught m h step) _ (attempt_of m.column id) m.column
@@ -272,7 +267,7 @@ module _ (taught : Taught) (m : Moment) (h : Facts taught m) where
       let step = Validate id in
       on_some-keeps (StepSorted taught m h step) _ (attempt_of m.column id) m.column
       (λ a e. sends_all taught m h step (idle_from m.column.work c.0) _ a.epoch id 0 (ValidateBody (mark_sent m.round m.column id.client)) refl refl refl
-      (record { attempt = a; found = e; stamped = there (λ (x : AttemptState). is_some x.txn) (attempt_of m.column id) a e c.1.0; same_epoch = refl })
+      (record { attempt = a; found = e; stamped = passes-at (λ (x : AttemptState). is_some x.txn) (attempt_of m.column id) a e c.1.0; same_epoch = refl })
       (λ r. ValidateSent (mark_sent m.round m.column id.client) refl)) (stays taught m h step (idle_from m.column.work c.0))
   steps_sorted (Take number) c =
       let step = Take number in
@@ -282,25 +277,25 @@ module _ (taught : Taught) (m : Moment) (h : Facts taught m) where
   steps_sorted (Rule id) c =
       let step = Rule id in
       on_some-keeps (StepSorted taught m h step) _ (attempt_of m.column id) m.column
-      (λ a e. ruled_sorted taught m h step (idle_from m.column.work c.0) a (ruling m.round.faults a.coord) (own_number m.column id a e)
-      (there (λ (x : AttemptState). is_some x.txn) (attempt_of m.column id) a e c.1.0)
-      (none_from a.coord.learned (there (λ (x : AttemptState). is_none x.coord.learned) (attempt_of m.column id) a e c.1.1.1.0)) refl
+      (λ a e. ruled_sorted taught m h step (idle_from m.column.work c.0) a (ruling m.round.faults a.coord) (attempt_of-own m.column id a e)
+      (passes-at (λ (x : AttemptState). is_some x.txn) (attempt_of m.column id) a e c.1.0)
+      (None-from_is_none a.coord.learned (passes-at (λ (x : AttemptState). is_none x.coord.learned) (attempt_of m.column id) a e c.1.1.1.0)) refl
       (λ o fast. Among-append_right (learning a.id ByVotes o) m.column.learned (by_rule m.round id (attempt_of m.column id))
-      (nothing_learned taught m h step a (ruling m.round.faults a.coord) o refl fast id e (attempt_id m.column id a e)))) (stays taught m h step (idle_from m.column.work c.0))
+      (nothing_learned taught m h step a (ruling m.round.faults a.coord) o refl fast id e (attempt_of-id m.column id a e)))) (stays taught m h step (idle_from m.column.work c.0))
   steps_sorted (Again id) c =
       let step = Again id in
       on_some-keeps (StepSorted taught m h step) _ (attempt_of m.column id) m.column
       (λ a e. on_some-keeps (StepSorted taught m h step) _ a.coord.proposed m.column
-      (λ o p. again_sorted taught m h step (idle_from m.column.work c.0) a o (own_number m.column id a e) (there (λ (x : AttemptState). is_some x.txn) (attempt_of m.column id) a e c.1.0) p) (stays taught m h step (idle_from m.column.work c.0))) (stays taught m h step (idle_from m.column.work c.0))
+      (λ o p. again_sorted taught m h step (idle_from m.column.work c.0) a o (attempt_of-own m.column id a e) (passes-at (λ (x : AttemptState). is_some x.txn) (attempt_of m.column id) a e c.1.0) p) (stays taught m h step (idle_from m.column.work c.0))) (stays taught m h step (idle_from m.column.work c.0))
   steps_sorted (Takeover id view) c =
       let step = Takeover id view in
       on_some-keeps (StepSorted taught m h step) _ (attempt_of m.column id) m.column
-      (λ a e. begins_takeover taught m h step (idle_from m.column.work c.0) a view (own_number m.column id a e) (from_validate id a c.1.0 e) (grind (arith, nat_tests, c.1.1.0))
-      (subst (λ (x : TxnId). takeover_of m.column x view ≡ None) (sym (attempt_id m.column id a e)) (none_from (takeover_of m.column id view) (grind (arith, c.1.1.0))))) (stays taught m h step (idle_from m.column.work c.0))
+      (λ a e. begins_takeover taught m h step (idle_from m.column.work c.0) a view (attempt_of-own m.column id a e) (from_validate id a c.1.0 e) (grind (arith, nat_tests, c.1.1.0))
+      (subst (λ (x : TxnId). takeover_of m.column x view ≡ None) (sym (attempt_of-id m.column id a e)) (None-from_is_none (takeover_of m.column id view) (grind (arith, c.1.1.0))))) (stays taught m h step (idle_from m.column.work c.0))
   steps_sorted (PickStep id view) c =
       let step = PickStep id view in
       on_some-keeps (StepSorted taught m h step) _ (attempt_of m.column id) m.column
       (λ a e. on_some-keeps (StepSorted taught m h step) _ (takeover_of m.column a.id view) m.column
-      (λ t k. picked_sorted taught m h step (idle_from m.column.work c.0) view a t (pick m.round.faults t.state) (own_number m.column id a e) (by_view a.id view a t k (own_number m.column id a e))
+      (λ t k. picked_sorted taught m h step (idle_from m.column.work c.0) view a t (pick m.round.faults t.state) (attempt_of-own m.column id a e) (by_view a.id view a t k (attempt_of-own m.column id a e))
       (h.takeovers a.id view t k).from_one k refl) (stays taught m h step (idle_from m.column.work c.0))) (stays taught m h step (idle_from m.column.work c.0))
   steps_sorted (Stop id) c = untouched taught m h (Stop id) _ refl refl (WorkRests (idle_from m.column.work c.0))

@@ -2,56 +2,50 @@
 use Rattle.std.proofs.Common.{◌≡◌, ◌≤◌, ◌∙◌, ℕ, Bool, true, false, refl, arith, sym, ap, subst, List, [], ◌∷◌, ◌++◌, Option, Some, None, ◌&&◌}
 use Rattle.std.specs.Prelude.{option_map, find, is_some, ◌==◌}
 use Rattle.std.proofs.lemmas.Bool.Decides.{nat_tests}
+use Rattle.std.proofs.lemmas.Bool.{and_parts, cond_both, eqb-true}
+use Rattle.std.proofs.lemmas.Option.{same_Some}
 use Rattle.mk_lists.specs.Among.{Among, Among-append_right}
 use Rattle.mk_lists.specs.Changed.{change}
+use Rattle.mk_lists.proofs.Tests.{Among-from_list_any}
+use Rattle.mk_lists.proofs.Changes.{find-change, find-change_other}
+use Rattle.mk_lists.proofs.Lookups.{find-append_some, find_push, find_push_other}
+use Rattle.mk_model.proofs.Parts.{attempt_of-id, takeover_answered-id, takeover_answered-view}
 use Rattle.mk_txn.specs.declared.TxnId.{TxnId}
 use Rattle.mk_txn.specs.declared.Stamp.{Stamp as StampType}
 use Rattle.mk_txn.specs.declared.WriteItem.{WriteItem}
 use Rattle.mk_txn.specs.Stamps.{next_stamp_of}
 use Rattle.mk_txn.specs.Transactions.{Transaction, same_id}
-use Rattle.mk_txn.proofs.ClashFacts.{member-from_list_any}
-use Rattle.mk_cell.specs.declared.Answer.{Answer}
-use Rattle.mk_msg.specs.declared.Msg.{Msg}
-use Rattle.mk_msg.specs.declared.Body.{Body}
-use Rattle.mk_column.specs.Sending.{msg_of}
-use Rattle.mk_msg.specs.declared.Body.TheVariants.{Accept, Accepted as AcceptedBody, Told as ToldBody, Moved as MovedBody}
-use Rattle.mk_msg.specs.Links.{message, goes_to_replica}
-use Rattle.mk_coord.specs.declared.Ruling.{Ruling}
-use Rattle.mk_coord.specs.declared.Ruling.TheVariants.{Fast, Propose, Learned, Short, Unaccepted}
-use Rattle.mk_coord.specs.Rulings.{ruling}
-use Rattle.mk_takeover.specs.declared.Pick.{Pick}
-use Rattle.mk_takeover.specs.declared.Pick.TheVariants.{Known, Learned as PickLearned, Propose as PickPropose, Short as PickShort, Unaccepted as PickUnaccepted, Unclear}
-use Rattle.mk_takeover.specs.Picks.{TakeoverState, pick, new_takeover}
-use Rattle.mk_valid.specs.Checks.{KeyAct}
-use Rattle.mk_valid.specs.Validations.{ValidationState, next_act, after_answer}
-use Rattle.mk_column.specs.declared.Step.{Step}
-use Rattle.mk_column.specs.declared.Step.TheVariants.{Begin, Unread, Read, Stamp, Validate, Take, Key, Rule, Again, Takeover, Pick as PickStep, Stop}
-use Rattle.mk_column.specs.ColumnState.{ColumnState, AttemptState, TakeoverOf, Work, attempt_of, takeover_of, client_of, is_takeover, to_all}
-use Rattle.mk_column.specs.ColumnState.Work.{Idle, Fetching, Validating, Finishing}
-use Rattle.mk_column.specs.Conditions.{conditions, is_validate_of}
-use Rattle.mk_column.specs.Answers.{takeover_answered, state_answered, listens, is_led}
-use Rattle.mk_column.specs.Steps.{stepped, stamped, ruled, picked, closing, takeover_proposing, taken, replica_takes, answered, validated}
-use Rattle.mk_column.specs.Learnings.{txn_of}
-use Rattle.mk_column.proofs.Frames.{AllTrue, on_some-keeps, either_way}
+use Rattle.mk_txn.proofs.IdOrder.{same_id-tells}
+use Rattle.mk_words.specs.declared.Answer.{Answer}
+use Rattle.mk_words.specs.declared.Msg.{Msg}
+use Rattle.mk_model.specs.Sending.{msg_of}
+use Rattle.mk_words.specs.declared.Body.TheVariants.{Accept}
+use Rattle.mk_words.specs.Links.{message, goes_to_replica}
+use Rattle.mk_words.specs.declared.Ruling.{Ruling}
+use Rattle.mk_words.specs.declared.Ruling.TheVariants.{Fast, Propose, Learned, Short, Unaccepted}
+use Rattle.mk_words.specs.Rulings.{ruling}
+use Rattle.mk_words.specs.declared.Pick.{Pick}
+use Rattle.mk_words.specs.declared.Pick.TheVariants.{Known, Learned as PickLearned, Propose as PickPropose, Short as PickShort, Unaccepted as PickUnaccepted, Unclear}
+use Rattle.mk_words.specs.Picks.{pick, new_takeover}
+use Rattle.mk_words.specs.Checks.{KeyAct}
+use Rattle.mk_words.specs.Validations.{ValidationState, next_act, after_answer}
+use Rattle.mk_words.specs.declared.Step.{Step}
+use Rattle.mk_words.specs.declared.Step.TheVariants.{Begin, Unread, Read, Stamp, Validate, Take, Key, Rule, Again, Takeover, Pick as PickStep, Stop}
+use Rattle.mk_model.specs.ColumnState.{ColumnState, AttemptState, TakeoverOf, Work, attempt_of, takeover_of, client_of, is_takeover, to_all}
+use Rattle.mk_model.specs.ColumnState.Work.{Idle, Fetching, Validating, Finishing}
+use Rattle.mk_model.specs.Conditions.{conditions, is_validate_of}
+use Rattle.mk_model.specs.Answers.{takeover_answered, listens, is_led}
+use Rattle.mk_model.specs.Steps.{stepped, stamped, ruled, picked, closing, takeover_proposing, taken, replica_takes, answered, validated}
+use Rattle.mk_model.specs.Learnings.{txn_of}
+use Rattle.mk_model.proofs.Frames.{AllTrue, on_some-keeps}
 use Rattle.mk_column_laws.specs.Moments.{Moment}
 use Rattle.mk_column_laws.specs.Moves.{TakeoverMove, TakeoverChange, IsStampedIn}
 use Rattle.mk_column_laws.specs.Moves.TakeoverMove.{TakeoverStays, TakeoverBegins, TakeoverChanges}
 use Rattle.mk_column_laws.specs.Moves.TakeoverChange.{Picks, Closes, TakeoverHears}
-use Rattle.mk_column_laws.proofs.Lookups.{same_id-tells, find-change, find-change_other, find-push_kept, find-pushed, find-push_other, some_same, apart_views, eqb-tells, and_left, and_right}
-use Rattle.mk_column_laws.proofs.SortedAttempts.{attempt_id, message_among, with_learned, first_of_all}
+use Rattle.mk_column_laws.proofs.SortedAttempts.{message_among, with_learned, first_of_all}
 
--- an answer leaves the number and the view of a takeover
-pub state_view : (r : ℕ) (b : Body) (t : TakeoverState) → (state_answered r b t).view ≡ t.view
-state_view r AcceptedBody t = refl
-state_view r (ToldBody told) t = refl
-state_view r (MovedBody moved) t = refl
-state_view r _ t = refl
-
-pub answered_id : (r : ℕ) (b : Body) (t : TakeoverOf) → (takeover_answered r b t).id ≡ t.id
-answered_id r b t = either_way (λ (x : TakeoverOf). x.id ≡ t.id) t.closed t (record t { state = state_answered r b t.state }) (λ _. refl) (λ _. refl)
-
-pub answered_view : (r : ℕ) (b : Body) (t : TakeoverOf) → (takeover_answered r b t).state.view ≡ t.state.view
-answered_view r b t = either_way (λ (x : TakeoverOf). x.state.view ≡ t.state.view) t.closed t (record t { state = state_answered r b t.state }) (λ _. refl) (λ _. state_view r b t.state)
+pub apart_views : (x id other : TxnId) (m v w : ℕ) → (same_id id other && v == w) ≡ false → (same_id x id && m == v) ≡ true → (same_id x other && m == w) ≡ false
+apart_views x id other m v w h k = grind (arith, nat_tests)
 
 module _ (m : Moment) (step : Step) (stamped_sent : (msg : Msg) → Among msg m.column.link → IsStampedIn m msg.id msg.epoch) where
   abbrev pub TakeoversSorted : ColumnState → Type 0
@@ -71,8 +65,8 @@ module _ (m : Moment) (step : Step) (stamped_sent : (msg : Msg) → Among msg m.
 
       by : (b : Bool) → (same_id id other && v == w) ≡ b → TakeoverMove m next other w (takeover_of m.column other w) (find (is_takeover other w) (change (is_takeover id v) g m.column.takeovers))
       by true e =
-          subst (λ (n : ℕ). TakeoverMove m next other n (takeover_of m.column other n) (find (is_takeover other n) (change (is_takeover id v) g m.column.takeovers))) (eqb-tells v w (and_right (same_id id other) (v == w) e))
-          (subst (λ (x : TxnId). TakeoverMove m next x v (takeover_of m.column x v) (find (is_takeover x v) (change (is_takeover id v) g m.column.takeovers))) (same_id-tells id other (and_left (same_id id other) (v == w) e))
+          subst (λ (n : ℕ). TakeoverMove m next other n (takeover_of m.column other n) (find (is_takeover other n) (change (is_takeover id v) g m.column.takeovers))) (eqb-true v w (and_parts (same_id id other) (v == w) e).1)
+          (subst (λ (x : TxnId). TakeoverMove m next x v (takeover_of m.column x v) (find (is_takeover x v) (change (is_takeover id v) g m.column.takeovers))) (same_id-tells id other (and_parts (same_id id other) (v == w) e).0)
           (here (takeover_of m.column id v) refl))
       by false e = TakeoverStays (find-change_other (is_takeover id v) (is_takeover other w) g m.column.takeovers (λ t k. apart_views t.id id other t.state.view v w e k) (keeps other w))
 
@@ -92,18 +86,18 @@ module _ (m : Moment) (step : Step) (stamped_sent : (msg : Msg) → Among msg m.
 
       by : (o : Option TakeoverOf) → takeover_of m.column other w ≡ o → (b : Bool) → is_takeover other w new ≡ b →
           TakeoverMove m next other w (takeover_of m.column other w) (find (is_takeover other w) (m.column.takeovers ++ new ∷ []))
-      by (Some t) e b k = TakeoverStays (find-push_kept (is_takeover other w) m.column.takeovers new t e ∙ sym e)
+      by (Some t) e b k = TakeoverStays (find-append_some (is_takeover other w) m.column.takeovers (new ∷ []) t e ∙ sym e)
       by None e true k =
-          begins other w (same_id-tells id other (and_left (same_id id other) (v == w) k)) (eqb-tells v w (and_right (same_id id other) (v == w) k)) e
-          (find-pushed (is_takeover other w) m.column.takeovers new e k)
-      by None e false k = TakeoverStays (find-push_other (is_takeover other w) m.column.takeovers new k)
+          begins other w (same_id-tells id other (and_parts (same_id id other) (v == w) k).0) (eqb-true v w (and_parts (same_id id other) (v == w) k).1) e
+          (find_push (is_takeover other w) m.column.takeovers new e k)
+      by None e false k = TakeoverStays (find_push_other (is_takeover other w) m.column.takeovers new k)
 
   stamped_one : (id : TxnId) (a : AttemptState) → Rattle.std.specs.List.list_any (is_validate_of id) m.column.link ≡ true → attempt_of m.column id ≡ Some a → is_some a.txn ≡ true
   stamped_one id a any e =
-      let msg = member-from_list_any (is_validate_of id) m.column.link any in
+      let msg = Among-from_list_any (is_validate_of id) m.column.link any in
       let s = stamped_sent msg.0 msg.1 in
-      let same : msg.0.id ≡ id = same_id-tells msg.0.id id (and_right _ _ msg.2) in
-      let one : s.attempt ≡ a = some_same s.attempt a (sym s.found ∙ ap (λ (x : TxnId). attempt_of m.column x) same ∙ e) in
+      let same : msg.0.id ≡ id = same_id-tells msg.0.id id (and_parts _ _ msg.2).1 in
+      let one : s.attempt ≡ a = same_Some s.attempt a (sym s.found ∙ ap (λ (x : TxnId). attempt_of m.column x) same ∙ e) in
       subst (λ (x : AttemptState). is_some x.txn ≡ true) one s.stamped
 
   stamping_sorted : (id : TxnId) (writes : List WriteItem) (s : Option StampType) → TakeoversSorted (stamped id writes s m.column)
@@ -123,7 +117,7 @@ module _ (m : Moment) (step : Step) (stamped_sent : (msg : Msg) → Among msg m.
   picked_sorted view a t (PickLearned o) e is = takeovers_changed _ a.id view closing (λ _. refl) (λ _. refl) (λ x k. Closes refl)
   picked_sorted view a t (PickPropose o) e is =
       takeovers_changed (with_learned m step (picked m.round.faults view a (PickPropose o) m.column)) a.id view (takeover_proposing o) (λ _. refl) (λ _. refl)
-      (λ x k. subst (λ (y : TakeoverOf). TakeoverChange m (with_learned m step (picked m.round.faults view a (PickPropose o) m.column)) a.id view y (takeover_proposing o y)) (some_same t x (sym e ∙ k)) (Picks o is refl (0, (a.epoch, Among-append_right (msg_of a.epoch a.id 0 view (Accept o)) m.column.link (to_all m.round.faults a.epoch a.id view (Accept o)) (first_of_all m.round.faults a.epoch a.id view (Accept o))))))
+      (λ x k. subst (λ (y : TakeoverOf). TakeoverChange m (with_learned m step (picked m.round.faults view a (PickPropose o) m.column)) a.id view y (takeover_proposing o y)) (same_Some t x (sym e ∙ k)) (Picks o is refl (0, (a.epoch, Among-append_right (msg_of a.epoch a.id 0 view (Accept o)) m.column.link (to_all m.round.faults a.epoch a.id view (Accept o)) (first_of_all m.round.faults a.epoch a.id view (Accept o))))))
   picked_sorted view a t (PickShort k) e is = (λ x n. TakeoverStays refl)
   picked_sorted view a t (PickUnaccepted k) e is = (λ x n. TakeoverStays refl)
   picked_sorted view a t (Unclear x y) e is = (λ x n. TakeoverStays refl)
@@ -131,14 +125,8 @@ module _ (m : Moment) (step : Step) (stamped_sent : (msg : Msg) → Among msg m.
   taken_sorted : (msg : Msg) → Among msg m.column.link → TakeoversSorted (taken m.round msg m.column)
   taken_sorted msg among =
       let Fine : ColumnState → Type 0 = TakeoversSorted in
-      either_way Fine (goes_to_replica msg.body) _ _
-      (λ _. on_some-keeps Fine (replica_takes m.round msg) (txn_of m.column msg.id) m.column (λ txn e. (λ x n. TakeoverStays refl)) (λ x n. TakeoverStays refl))
-      (λ _. either_way Fine (msg.view == 0) _ _
-      (λ _. either_way Fine (listens (attempt_of m.column msg.id)) _ _ (λ _. (λ x n. TakeoverStays refl)) (λ _. (λ x n. TakeoverStays refl)))
-      (λ _. either_way Fine (is_led m.round msg.epoch msg.view) _ _
-      (λ _. takeovers_changed _ msg.id msg.view (takeover_answered msg.replica msg.body) (answered_id msg.replica msg.body) (answered_view msg.replica msg.body)
-      (λ t e. TakeoverHears msg among refl refl refl))
-      (λ _. (λ x n. TakeoverStays refl))))
+      cond_both (goes_to_replica msg.body) _ _ Fine (λ _. on_some-keeps Fine (replica_takes m.round msg) (txn_of m.column msg.id) m.column (λ txn e. (λ x n. TakeoverStays refl)) (λ x n. TakeoverStays refl)) (λ _. cond_both (msg.view == 0) _ _ Fine (λ _. cond_both (listens (attempt_of m.column msg.id)) _ _ Fine (λ _. (λ x n. TakeoverStays refl)) (λ _. (λ x n. TakeoverStays refl))) (λ _. cond_both (is_led m.round msg.epoch msg.view) _ _ Fine (λ _. takeovers_changed _ msg.id msg.view (takeover_answered msg.replica msg.body) (takeover_answered-id msg.replica msg.body) (takeover_answered-view msg.replica msg.body)
+      (λ t e. TakeoverHears msg among refl refl refl)) (λ _. (λ x n. TakeoverStays refl))))
 
   validated_sorted : (txn : Transaction) (r ep : ℕ) (state : ValidationState) (next : Option KeyAct) → TakeoversSorted (validated txn r ep state next m.column)
   validated_sorted txn r ep state (Some act) = (λ x n. TakeoverStays refl)
@@ -185,7 +173,7 @@ module _ (m : Moment) (stamped_sent : (msg : Msg) → Among msg m.column.link �
   takeovers_sorted (Takeover id view) c =
       let step = Takeover id view in
       on_some-keeps (TakeoversSorted m step stamped_sent) _ (attempt_of m.column id) m.column
-      (λ a e. takeovers_pushed m step stamped_sent _ a.id view a (subst (λ (x : TxnId). attempt_of m.column x ≡ Some a) (sym (attempt_id m.column id a e)) e)
+      (λ a e. takeovers_pushed m step stamped_sent _ a.id view a (subst (λ (x : TxnId). attempt_of m.column x ≡ Some a) (sym (attempt_of-id m.column id a e)) e)
       (stamped_one m step stamped_sent id a c.1.0 e) (grind (arith, nat_tests, c.1.1.0))) (λ x n. TakeoverStays refl)
   takeovers_sorted (PickStep id view) c =
       let step = PickStep id view in

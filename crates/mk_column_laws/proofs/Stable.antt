@@ -6,22 +6,22 @@ use Rattle.mk_txn.specs.declared.TxnId.{TxnId}
 use Rattle.mk_txn.specs.declared.Vote.{Vote}
 use Rattle.mk_txn.specs.declared.Outcome.{Outcome}
 use Rattle.mk_txn.specs.Transactions.{Transaction}
-use Rattle.mk_msg.specs.declared.Told.{Told}
-use Rattle.mk_msg.specs.declared.Msg.{Msg}
-use Rattle.mk_msg.specs.declared.Body.{Body}
-use Rattle.mk_msg.specs.declared.Body.TheVariants.{Validate as ValidateBody, Voted, Accept, Accepted as AcceptedBody, Decide, Ask, Told as ToldBody, Moved as MovedBody}
+use Rattle.mk_words.specs.declared.Told.{Told}
+use Rattle.mk_words.specs.declared.Msg.{Msg}
+use Rattle.mk_words.specs.declared.Body.{Body}
+use Rattle.mk_words.specs.declared.Body.TheVariants.{Validate as ValidateBody, Voted, Accept, Accepted as AcceptedBody, Decide, Ask, Told as ToldBody, Moved as MovedBody}
 use Rattle.mk_quorum.specs.Counts.{count_below}
 use Rattle.mk_quorum.specs.Sizes.{members, majority_of}
 use Rattle.mk_quorum.proofs.Counting.{count_below-weaker}
-use Rattle.mk_coord.specs.declared.Ruling.TheVariants.{Fast, Propose}
-use Rattle.mk_coord.specs.Rulings.{by_votes}
-use Rattle.mk_takeover.specs.declared.Pick.TheVariants.{Propose as PickPropose}
-use Rattle.mk_takeover.specs.Picks.{by_promises}
-use Rattle.mk_column.specs.ColumnState.{AttemptState, TakeoverOf, attempt_of}
+use Rattle.mk_words.specs.declared.Ruling.TheVariants.{Fast, Propose}
+use Rattle.mk_words.specs.Rulings.{by_votes}
+use Rattle.mk_words.specs.declared.Pick.TheVariants.{Propose as PickPropose}
+use Rattle.mk_words.specs.Picks.{by_promises}
+use Rattle.mk_model.specs.ColumnState.{AttemptState, TakeoverOf, attempt_of}
 use Rattle.mk_column_laws.specs.Moments.{Moment, PastEntry, Taught, StaysTaught, past_vote}
-use Rattle.mk_column.specs.Sending.{Sent, Proposed, msg_of}
+use Rattle.mk_model.specs.Sending.{Sent, Proposed, msg_of}
 use Rattle.mk_column_laws.specs.Messages.{VotesIn, RepliesIn, taking_over}
-use Rattle.mk_column.specs.Deciding.{IsDecided, IsChosen, has_accepted}
+use Rattle.mk_model.specs.Deciding.{IsDecided, IsChosen, has_accepted}
 use Rattle.mk_column_laws.specs.Moves.{HasProposed, IsStampedIn}
 use Rattle.mk_column_laws.specs.Facts.{Grows, IsBacked, IsSupported, IsTaught, IsPromise, ToldFacts, AcceptFacts, Says, AttemptFacts, TakeoverFacts, EntryFacts, FastFacts, is_ok_by}
 use Rattle.mk_column_laws.proofs.Choices.{accept_sent}

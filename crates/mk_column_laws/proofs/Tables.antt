@@ -1,18 +1,9 @@
 -- A member that is found in a list of members with keys, where one of them is changed.
-use Rattle.std.proofs.Common.{◌≡◌, ◌⊎◌, ◌∙◌, Bool, true, false, refl, sym, ap, inl, inr, List, [], ◌∷◌, Option, Some, None, cond}
+use Rattle.std.proofs.Common.{◌≡◌, ◌⊎◌, ◌∙◌, Bool, true, false, refl, sym, ap, inl, inr, List, Option, Some, None}
 use Rattle.std.specs.Prelude.{option_map, find}
-use Rattle.mk_lists.specs.Among.{Among}
+use Rattle.std.proofs.lemmas.Option.{same_Some}
 use Rattle.mk_lists.specs.Changed.{change}
-use Rattle.mk_column_laws.proofs.Lookups.{find-change, find-change_other, some_same}
-
--- what is found is a member
-pub find-among : {X : Type 0} (p : X → Bool) (xs : List X) (x : X) → find p xs ≡ Some x → Among x xs
-find-among p [] x e = absurd (cc e)
-find-among {X} p (y ∷ xs) x e = by (find-among p xs x) (p y) e
-  where
-    by : (find p xs ≡ Some x → Among x xs) → (b : Bool) → cond b (Some y) (find p xs) ≡ Some x → Among x (y ∷ xs)
-    by again true k = inl (some_same y x k)
-    by again false k = inr (again k)
+use Rattle.mk_lists.proofs.Changes.{find-change, find-change_other}
 
 module _ {X K : Type 0} (is : K → X → Bool) (k : K) (f : X → X) (keeps : (n : K) (x : X) → is n (f x) ≡ is n x)
     (decide : (n : K) → (n ≡ k) ⊎ ((x : X) → is k x ≡ true → is n x ≡ false)) where
@@ -42,4 +33,4 @@ module _ {X K : Type 0} (is : K → X → Bool) (k : K) (f : X → X) (keeps : (
 
       by : (o : Option X) → find (is n) xs ≡ o → (x : X) × (find (is n) xs ≡ Some x) × Was n x y
       by None q = absurd (let p = none q in cc (p, e))
-      by (Some x) q = let z = kept xs n x q in (x, q, moved x z.0 (some_same z.0 y (sym z.1 ∙ e)) z.2)
+      by (Some x) q = let z = kept xs n x q in (x, q, moved x z.0 (same_Some z.0 y (sym z.1 ∙ e)) z.2)

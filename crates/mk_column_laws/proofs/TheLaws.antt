@@ -1,25 +1,24 @@
 -- The laws, from what holds at every moment.
 use Rattle.std.proofs.Common.{refl, ◌≡◌, ◌⊎◌, ◌∙◌, ℕ, suc, true, arith, inl, inr, sym, ap, subst, Option, Some, ◌<◌, None}
 use Rattle.std.specs.Prelude.{option_map, slice_get}
+use Rattle.std.proofs.lemmas.Option.{none-some, same_Some}
 use Rattle.mk_txn.specs.declared.TxnId.{TxnId}
 use Rattle.mk_txn.specs.declared.Outcome.{Outcome}
 use Rattle.mk_txn.specs.Outcomes.{agrees}
-use Rattle.mk_record.specs.Entries.{entry_of}
-use Rattle.mk_msg.specs.declared.Body.TheVariants.{Voted, Accepted as AcceptedBody, Decide, Moved as MovedBody}
-use Rattle.mk_column.specs.ColumnState.{AttemptState, attempt_of, entries_at}
-use Rattle.mk_column.specs.Replicas.{serves}
+use Rattle.mk_words.specs.Entries.{entry_of}
+use Rattle.mk_words.specs.declared.Body.TheVariants.{Voted, Accepted as AcceptedBody, Decide, Moved as MovedBody}
+use Rattle.mk_model.specs.ColumnState.{AttemptState, attempt_of, entries_at}
+use Rattle.mk_model.specs.Replicas.{serves}
 use Rattle.mk_column_laws.specs.Moments.{Moment, PastEntry, Taught, after_event, moment_through}
-use Rattle.mk_column.specs.Sending.{msg_of}
-use Rattle.mk_column.specs.Deciding.{IsDecided}
+use Rattle.mk_model.specs.Sending.{msg_of}
+use Rattle.mk_model.specs.Deciding.{IsDecided}
 use Rattle.mk_column_laws.specs.Moves.{EntryMove, ServesAttempt, HasProposed, IsMatched, entry_of_past}
 use Rattle.mk_column_laws.specs.Moves.EntryMove.{EntryStays, EntryOpens, EntryVotes, EntryPromises, EntryAccepts, EntryFinishes}
 use Rattle.mk_column_laws.specs.Facts.{Facts, FastFacts, IsBacked}
 use Rattle.mk_column_laws.specs.Laws.{MovedIsLater, RecordsKept, RecordIsPast, CountsBacked, EventsMove, ColumnsGrow, FactsHold, EntriesChangeWhereServed, RecordsMatch, MessagesAreOf, AcceptIsProposal, OneProposal, VotedTrue, AcceptedTrue, ToldTrue, MovedTrue, AcceptedWasProposed, FinalWasSent, OwnGrounds, FastGrounds, TakeoverGrounds, ViewsAgree, FastForbids, OneDecision, CommitSupport, LearnedBacked, BackingStays}
-use Rattle.mk_column_laws.proofs.Lookups.{some_same}
 use Rattle.mk_column_laws.proofs.Choices.{chosen_kept, fast_kept, by_votes-fast}
 use Rattle.mk_column_laws.proofs.Agreed.{Decided, IsFast, decided_agree}
 use Rattle.mk_column_laws.proofs.Views.{orderly, proposed_says, told_says, proposal_supported, decided_supported}
-use Rattle.mk_column_laws.proofs.Growing.{none_some}
 use Rattle.mk_column_laws.proofs.Stable.{IsBacked-grows}
 use Rattle.mk_column_laws.proofs.Rounds.{reached_facts, event_moves}
 use Rattle.mk_column_laws.proofs.Growth.{grows_through}
@@ -56,7 +55,7 @@ records_match taught stays m reached r id a found served = by ((reached_facts ta
     by (inl e) = e
     by (inr k) =
         let stayed = (reached_facts taught stays m reached).round.tenure r a.epoch served in
-        let left = subst (λ (x : AttemptState). m.past.has_left r x.epoch ≡ true) (some_same k.1.0 a (sym k.1.1 ∙ found)) k.1.2 in
+        let left = subst (λ (x : AttemptState). m.past.has_left r x.epoch ≡ true) (same_Some k.1.0 a (sym k.1.1 ∙ found)) k.1.2 in
         absurd (cc (stayed, left))
 
 pub messages_are_of : MessagesAreOf
@@ -94,7 +93,7 @@ own_grounds taught stays m r id o p = (orderly taught m (reached_facts taught st
 -- nothing is proposed beside a fast decision
 unproposed : (taught : Taught) (m : Moment) → Facts taught m → (id : TxnId) (o other : Outcome) → FastFacts m id o → HasProposed m id 0 other → ⊥
 unproposed taught m h id o other f (inl p) =
-    none_some f.attempt.coord.proposed other f.unproposed (ap (λ (x : AttemptState). x.coord.proposed) (some_same f.attempt p.1.0 (sym f.found ∙ p.1.1)) ∙ p.1.2)
+    none-some other (sym f.unproposed ∙ (ap (λ (x : AttemptState). x.coord.proposed) (same_Some f.attempt p.1.0 (sym f.found ∙ p.1.1)) ∙ p.1.2))
 unproposed taught m h id o other f (inr p) = omega (arith, p.0)
 
 pub fast_grounds : FastGrounds
@@ -170,7 +169,7 @@ records_kept taught stays m reached r id a found here = by ((reached_facts taugh
     by : IsMatched m r id → entry_of id (entries_at m.column r) ≡ option_map entry_of_past (m.past.entries r id)
     by (inl e) = e
     by (inr k) =
-        let left = subst (λ (x : AttemptState). m.past.has_left r x.epoch ≡ true) (some_same k.1.0 a (sym k.1.1 ∙ found)) k.1.2 in
+        let left = subst (λ (x : AttemptState). m.past.has_left r x.epoch ≡ true) (same_Some k.1.0 a (sym k.1.1 ∙ found)) k.1.2 in
         absurd (cc (here, left))
 
 pub record_is_past : RecordIsPast
@@ -178,7 +177,7 @@ record_is_past taught stays m reached r id entry found = by ((reached_facts taug
   where
     by : IsMatched m r id → (o : Option PastEntry) → m.past.entries r id ≡ o → (past : PastEntry) × (m.past.entries r id ≡ Some past) × (entry ≡ entry_of_past past)
     by (inl e) None is = absurd (let k : entry_of id (entries_at m.column r) ≡ None = e ∙ ap (option_map entry_of_past) is in cc (k, found))
-    by (inl e) (Some past) is = (past, is, some_same entry (entry_of_past past) (sym found ∙ e ∙ ap (option_map entry_of_past) is))
+    by (inl e) (Some past) is = (past, is, same_Some entry (entry_of_past past) (sym found ∙ e ∙ ap (option_map entry_of_past) is))
     by (inr k) o is = absurd (let none = k.0 in cc (none, found))
 
 pub counts_backed : CountsBacked

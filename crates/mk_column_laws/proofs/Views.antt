@@ -2,29 +2,30 @@
 use Rattle.std.proofs.Common.{◌≡◌, ◌<◌, ◌≤◌, ◌∙◌, ℕ, zero, suc, Bool, true, false, refl, arith, inl, inr, sym, ap, subst, List, Option, Some, None, cond}
 use Rattle.std.specs.Prelude.{nat_le, nat_lt}
 use Rattle.std.proofs.lemmas.Bool.Decides.{nat_tests}
+use Rattle.std.proofs.lemmas.Option.{same_Some}
 use Rattle.mk_txn.specs.declared.TxnId.{TxnId}
 use Rattle.mk_txn.specs.declared.Vote.{Vote}
 use Rattle.mk_txn.specs.declared.Vote.TheVariants.{Ok as VoteOk}
 use Rattle.mk_txn.specs.declared.Outcome.{Outcome}
 use Rattle.mk_txn.specs.declared.Outcome.TheVariants.{Commit, Abort}
 use Rattle.mk_txn.specs.Outcomes.{is_ok_vote, is_commit}
-use Rattle.mk_msg.specs.declared.Told.{Told}
-use Rattle.mk_msg.specs.declared.Body.TheVariants.{Voted, Accept, Told as ToldBody}
+use Rattle.mk_words.specs.declared.Told.{Told}
+use Rattle.mk_words.specs.declared.Body.TheVariants.{Voted, Accept, Told as ToldBody}
 use Rattle.mk_quorum.specs.Sizes.{members, majority_of, fast_of}
 use Rattle.mk_quorum.specs.Slots.{slot, passes, count_slots}
 use Rattle.mk_quorum.proofs.Counting.{count_below-weaker}
-use Rattle.mk_coord.specs.declared.Ruling.TheVariants.{Fast, Propose, Short}
-use Rattle.mk_coord.specs.Rulings.{by_votes, is_abort_vote, any_vote, first_refusal}
-use Rattle.mk_takeover.specs.declared.Pick.TheVariants.{Propose as PickPropose}
-use Rattle.mk_takeover.specs.Picks.{by_promises, is_ok_promise}
-use Rattle.mk_column.specs.ColumnState.{AttemptState, TakeoverOf}
+use Rattle.mk_quorum.proofs.Slots.{passes-some}
+use Rattle.mk_words.specs.declared.Ruling.TheVariants.{Fast, Propose, Short}
+use Rattle.mk_words.specs.Rulings.{by_votes, is_abort_vote, any_vote, first_refusal}
+use Rattle.mk_words.specs.declared.Pick.TheVariants.{Propose as PickPropose}
+use Rattle.mk_words.specs.Picks.{by_promises, is_ok_promise}
+use Rattle.mk_model.specs.ColumnState.{AttemptState, TakeoverOf}
 use Rattle.mk_column_laws.specs.Moments.{Moment, PastEntry, Taught, past_vote}
-use Rattle.mk_column.specs.Sending.{Sent, Proposed, msg_of}
+use Rattle.mk_model.specs.Sending.{Sent, Proposed, msg_of}
 use Rattle.mk_column_laws.specs.Messages.{VotesIn, RepliesIn, taking_over}
-use Rattle.mk_column.specs.Deciding.{IsDecided}
+use Rattle.mk_model.specs.Deciding.{IsDecided}
 use Rattle.mk_column_laws.specs.Moves.{HasProposed}
 use Rattle.mk_column_laws.specs.Facts.{Facts, ToldFacts, IsSupported, is_ok_by}
-use Rattle.mk_column_laws.proofs.Lookups.{some_same, passes-some}
 use Rattle.mk_column_laws.proofs.Orderly.{IsOrderly}
 use Rattle.mk_column_laws.proofs.Choices.{by_promises-propose, by_votes-fast, first_refusal-abort, highest_proposed, ok_vote-is, ok_promise-votes}
 
@@ -65,21 +66,21 @@ module _ (taught : Taught) (m : Moment) (h : Facts taught m) where
   told_says id r v t s = (h.messages (msg_of s.0 id r v (ToldBody t)) s.1).1
 
   same_vote : (x y : PastEntry) (a b : Vote) (i j : ℕ) → x ≡ y → x.vote ≡ Some (a, i) → y.vote ≡ Some (b, j) → a ≡ b
-  same_vote x y a b i j e p q = let k : (a, i) ≡ (b, j) = some_same (a, i) (b, j) (sym p ∙ ap (λ (z : PastEntry). z.vote) e ∙ q) in ap (λ z. z.0) k
+  same_vote x y a b i j e p q = let k : (a, i) ≡ (b, j) = same_Some (a, i) (b, j) (sym p ∙ ap (λ (z : PastEntry). z.vote) e ∙ q) in ap (λ z. z.0) k
 
   one_vote : (id : TxnId) (r : ℕ) (a b : Vote) → Sent m.column.link id r 0 (Voted a) → Sent m.column.link id r 0 (Voted b) → a ≡ b
   one_vote id r a b s t =
       let x = voted_says id r a s in
       let y = voted_says id r b t in
-      same_vote x.0 y.0 a b x.2.0 y.2.0 (some_same x.0 y.0 (sym x.1 ∙ y.1)) x.2.1 y.2.1
+      same_vote x.0 y.0 a b x.2.0 y.2.0 (same_Some x.0 y.0 (sym x.1 ∙ y.1)) x.2.1 y.2.1
 
   pub one_proposal : (id : TxnId) (v : ℕ) (a b : Outcome) → HasProposed m id v a → HasProposed m id v b → a ≡ b
   one_proposal id v a b (inl p) (inl q) =
-      let same : p.1.0 ≡ q.1.0 = some_same p.1.0 q.1.0 (sym p.1.1 ∙ q.1.1) in
-      some_same a b (sym p.1.2 ∙ ap (λ (x : AttemptState). x.coord.proposed) same ∙ q.1.2)
+      let same : p.1.0 ≡ q.1.0 = same_Some p.1.0 q.1.0 (sym p.1.1 ∙ q.1.1) in
+      same_Some a b (sym p.1.2 ∙ ap (λ (x : AttemptState). x.coord.proposed) same ∙ q.1.2)
   one_proposal id v a b (inr p) (inr q) =
-      let same : p.1.0 ≡ q.1.0 = some_same p.1.0 q.1.0 (sym p.1.1 ∙ q.1.1) in
-      some_same a b (sym p.1.2 ∙ ap (λ (x : TakeoverOf). x.state.proposed) same ∙ q.1.2)
+      let same : p.1.0 ≡ q.1.0 = same_Some p.1.0 q.1.0 (sym p.1.1 ∙ q.1.1) in
+      same_Some a b (sym p.1.2 ∙ ap (λ (x : TakeoverOf). x.state.proposed) same ∙ q.1.2)
   one_proposal id v a b (inl p) (inr q) = absurd (omega (arith, p.0, q.0))
   one_proposal id v a b (inr p) (inl q) = absurd (omega (arith, p.0, q.0))
 
@@ -97,19 +98,19 @@ module _ (taught : Taught) (m : Moment) (h : Facts taught m) where
   told_ok id r v t b f n (Some w) is e s =
       let x = voted_says id r b s in
       let y = (f.promise n).voted w is in
-      same_vote x.0 f.entry b w x.2.0 y.0 (some_same x.0 f.entry (sym x.1 ∙ f.found)) x.2.1 y.1 ∙ ok_vote-is w e
+      same_vote x.0 f.entry b w x.2.0 y.0 (same_Some x.0 f.entry (sym x.1 ∙ f.found)) x.2.1 y.1 ∙ ok_vote-is w e
 
   told_other : (id : TxnId) (r v : ℕ) (t : Told) → ToldFacts m r id v t → t.last ≡ None → (w : Option Vote) → t.vote ≡ w → passes is_ok_vote w ≡ false → Sent m.column.link id r 0 (Voted VoteOk) → ⊥
   told_other id r v t f n None is e s =
       let x = voted_says id r VoteOk s in
       let z = (f.promise n).sealed is in
-      let none : x.0.vote ≡ None = ap (λ (y : PastEntry). y.vote) (some_same x.0 z.entry (sym x.1 ∙ z.found)) ∙ z.no_vote in
+      let none : x.0.vote ≡ None = ap (λ (y : PastEntry). y.vote) (same_Some x.0 z.entry (sym x.1 ∙ z.found)) ∙ z.no_vote in
       let some = x.2.1 in
       cc (none, some)
   told_other id r v t f n (Some w) is e s =
       let x = voted_says id r VoteOk s in
       let y = (f.promise n).voted w is in
-      let same = same_vote x.0 f.entry VoteOk w x.2.0 y.0 (some_same x.0 f.entry (sym x.1 ∙ f.found)) x.2.1 y.1 in
+      let same = same_vote x.0 f.entry VoteOk w x.2.0 y.0 (same_Some x.0 f.entry (sym x.1 ∙ f.found)) x.2.1 y.1 in
       let k : is_ok_vote w ≡ true = subst (λ (z : Vote). is_ok_vote z ≡ true) same refl in
       cc (k, e)
 

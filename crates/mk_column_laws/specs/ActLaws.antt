@@ -8,10 +8,10 @@ use Rattle.mk_txn.specs.declared.Vote.TheVariants.{Ok as VoteOk, Abort as VoteAb
 use Rattle.mk_txn.specs.declared.Outcome.TheVariants.{Commit, Abort}
 use Rattle.mk_txn.specs.declared.Stamp.{Stamp}
 use Rattle.mk_txn.specs.declared.Value.{Value}
-use Rattle.mk_cell.specs.declared.Act.{Act}
-use Rattle.mk_cell.specs.declared.Act.TheVariants.{CheckRead, CheckWrite, CommitRead, CommitWrite, ReleaseRead, ReleaseWrite}
-use Rattle.mk_cell.specs.declared.Answer.TheVariants.{Okay, Refused}
-use Rattle.mk_valid.specs.Checks.{KeyAct, checks, commits_of}
+use Rattle.mk_words.specs.declared.Act.{Act}
+use Rattle.mk_words.specs.declared.Act.TheVariants.{CheckRead, CheckWrite, CommitRead, CommitWrite, ReleaseRead, ReleaseWrite}
+use Rattle.mk_words.specs.declared.Answer.TheVariants.{Okay, Refused}
+use Rattle.mk_words.specs.Checks.{KeyAct, checks, commits_of}
 use Rattle.mk_column_laws.specs.Moments.{Moment, PastAct, PastEntry}
 use Rattle.mk_column_laws.specs.KeyActs.{ActFacts, ActOrigin, WasDone, IsInEpoch, ReleaseReason}
 use Rattle.mk_column_laws.specs.Laws.{AlwaysHolds}

@@ -7,29 +7,29 @@ use Rattle.mk_txn.specs.declared.Accepted.{Accepted}
 use Rattle.mk_txn.specs.declared.Outcome.{Outcome}
 use Rattle.mk_txn.specs.Outcomes.{is_ok_vote, is_commit}
 use Rattle.mk_txn.specs.Transactions.{Transaction}
-use Rattle.mk_msg.specs.declared.Told.{Told}
-use Rattle.mk_msg.specs.declared.Msg.{Msg}
-use Rattle.mk_msg.specs.declared.Body.{Body}
-use Rattle.mk_msg.specs.declared.Body.TheVariants.{Validate as ValidateBody, Voted, Accept, Accepted as AcceptedBody, Decide, Ask, Told as ToldBody, Moved as MovedBody}
-use Rattle.mk_valid.specs.Validations.{ValidationState}
-use Rattle.mk_trim.specs.KeptOutcomes.{known_of}
+use Rattle.mk_words.specs.declared.Told.{Told}
+use Rattle.mk_words.specs.declared.Msg.{Msg}
+use Rattle.mk_words.specs.declared.Body.{Body}
+use Rattle.mk_words.specs.declared.Body.TheVariants.{Validate as ValidateBody, Voted, Accept, Accepted as AcceptedBody, Decide, Ask, Told as ToldBody, Moved as MovedBody}
+use Rattle.mk_words.specs.Validations.{ValidationState}
+use Rattle.mk_words.specs.KeptOutcomes.{known_of}
 use Rattle.mk_quorum.specs.Counts.{count_below}
 use Rattle.mk_quorum.specs.Sizes.{members, majority_of}
 use Rattle.mk_quorum.specs.Slots.{slot}
-use Rattle.mk_coord.specs.declared.Ruling.TheVariants.{Fast, Propose}
-use Rattle.mk_coord.specs.Rulings.{by_votes}
-use Rattle.mk_takeover.specs.declared.Pick.TheVariants.{Propose as PickPropose}
-use Rattle.mk_takeover.specs.Picks.{by_promises}
-use Rattle.mk_merge.specs.declared.ReplicaView.{ReplicaView}
-use Rattle.mk_column.specs.ColumnState.{AttemptState, TakeoverOf, Work, Learning, attempt_of, takeover_of}
-use Rattle.mk_column.specs.ColumnState.Work.{Validating}
-use Rattle.mk_column.specs.ColumnState.Way.{ByVotes}
-use Rattle.mk_column.specs.Replicas.{serves, is_serving}
-use Rattle.mk_column.specs.Answers.{moved_outcome, outcome_after}
-use Rattle.mk_column.specs.Learnings.{learning}
-use Rattle.mk_column.specs.Deciding.{IsDecided}
+use Rattle.mk_words.specs.declared.Ruling.TheVariants.{Fast, Propose}
+use Rattle.mk_words.specs.Rulings.{by_votes}
+use Rattle.mk_words.specs.declared.Pick.TheVariants.{Propose as PickPropose}
+use Rattle.mk_words.specs.Picks.{by_promises}
+use Rattle.mk_trim.specs.declared.ReplicaView.{ReplicaView}
+use Rattle.mk_model.specs.ColumnState.{AttemptState, TakeoverOf, Work, Learning, attempt_of, takeover_of}
+use Rattle.mk_model.specs.ColumnState.Work.{Validating}
+use Rattle.mk_model.specs.ColumnState.Way.{ByVotes}
+use Rattle.mk_model.specs.Replicas.{serves, is_serving}
+use Rattle.mk_model.specs.Answers.{moved_outcome, outcome_after}
+use Rattle.mk_model.specs.Learnings.{learning}
+use Rattle.mk_model.specs.Deciding.{IsDecided}
 use Rattle.mk_column_laws.specs.Moments.{Moment, PastEntry, Taught, past_vote}
-use Rattle.mk_column.specs.Sending.{Sent, Proposed}
+use Rattle.mk_model.specs.Sending.{Sent, Proposed}
 use Rattle.mk_column_laws.specs.Messages.{VotesIn, RepliesIn, taking_over}
 use Rattle.mk_column_laws.specs.Moves.{HasProposed, IsStampedIn, ServesAttempt, IsMatched, past_opened}
 

@@ -4,13 +4,13 @@ use Rattle.mk_lists.specs.Among.{Among}
 use Rattle.mk_txn.specs.declared.TxnId.{TxnId}
 use Rattle.mk_txn.specs.declared.Outcome.{Outcome}
 use Rattle.mk_txn.specs.Outcomes.{agrees}
-use Rattle.mk_merge.specs.declared.ReplicaView.{ReplicaView}
-use Rattle.mk_column.specs.ColumnState.{Learning}
-use Rattle.mk_column.specs.ColumnState.Work.{Idle}
-use Rattle.mk_column.specs.Conditions.{blocked}
+use Rattle.mk_trim.specs.declared.ReplicaView.{ReplicaView}
+use Rattle.mk_model.specs.ColumnState.{Learning}
+use Rattle.mk_model.specs.ColumnState.Work.{Idle}
+use Rattle.mk_model.specs.Conditions.{blocked}
 use Rattle.mk_column_laws.specs.Moments.{Moment, Event, Taught, after_event, moment_through, first_moment}
 use Rattle.mk_column_laws.specs.Moments.Event.{NewRound, Doing}
-use Rattle.mk_column.specs.Deciding.{IsDecided}
+use Rattle.mk_model.specs.Deciding.{IsDecided}
 
 -- nothing is ever taught
 abbrev pub nothing_taught : Taught

@@ -2,7 +2,7 @@
 use Rattle.std.specs.Prelude.{◌≡◌, ◌<◌, ◌≤◌, ◌+◌, ℕ, true, List, Option, Some, find}
 use Rattle.mk_txn.specs.declared.TxnId.{TxnId}
 use Rattle.mk_txn.specs.Transactions.{Transaction, is_above_reads}
-use Rattle.mk_column.specs.ColumnState.{ClientState, AttemptState, attempt_of, is_client, is_attempt}
+use Rattle.mk_model.specs.ColumnState.{ClientState, AttemptState, attempt_of, is_client, is_attempt}
 use Rattle.mk_column_laws.specs.Laws.{AlwaysHolds}
 
 -- the client of this number

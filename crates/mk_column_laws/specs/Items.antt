@@ -3,9 +3,9 @@ use Rattle.std.specs.Prelude.{◌≡◌, ◌≤◌, ◌<◌, ℕ, ◌+◌, true,
 use Rattle.std.specs.List.{list_all}
 use Rattle.mk_txn.specs.declared.TxnId.{TxnId}
 use Rattle.mk_txn.specs.Transactions.{Transaction, IsTransaction, read_keys, are_distinct}
-use Rattle.mk_column.specs.ColumnState.{AttemptState, Work, attempt_of}
-use Rattle.mk_column.specs.ColumnState.Work.{Fetching}
-use Rattle.mk_column.specs.Conditions.{may_read}
+use Rattle.mk_model.specs.ColumnState.{AttemptState, Work, attempt_of}
+use Rattle.mk_model.specs.ColumnState.Work.{Fetching}
+use Rattle.mk_model.specs.Conditions.{may_read}
 use Rattle.mk_column_laws.specs.Moments.{Moment}
 use Rattle.mk_column_laws.specs.Laws.{AlwaysHolds}
 

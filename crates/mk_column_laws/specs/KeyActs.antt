@@ -9,16 +9,16 @@ use Rattle.mk_txn.specs.declared.Outcome.{Outcome}
 use Rattle.mk_txn.specs.declared.Outcome.TheVariants.{Commit, Abort}
 use Rattle.mk_txn.specs.Outcomes.{is_ok_vote}
 use Rattle.mk_txn.specs.Transactions.{Transaction}
-use Rattle.mk_cell.specs.declared.Act.TheVariants.{Get}
-use Rattle.mk_cell.specs.declared.Answer.{Answer}
-use Rattle.mk_cell.specs.declared.Answer.TheVariants.{Okay, Refused}
+use Rattle.mk_words.specs.declared.Act.TheVariants.{Get}
+use Rattle.mk_words.specs.declared.Answer.{Answer}
+use Rattle.mk_words.specs.declared.Answer.TheVariants.{Okay, Refused}
 use Rattle.mk_quorum.specs.Slots.{passes}
-use Rattle.mk_valid.specs.Checks.{KeyAct, checks, commits_of, releases_of, finish_acts}
-use Rattle.mk_valid.specs.Validations.{ValidationState, next_act, after_answer, vote_of}
-use Rattle.mk_column.specs.ColumnState.{AttemptState, Work, attempt_of}
-use Rattle.mk_column.specs.ColumnState.Work.{Idle, Fetching, Validating, Finishing}
-use Rattle.mk_column.specs.Replicas.{serves, finishing}
-use Rattle.mk_column.specs.Steps.{epoch_of, with_read}
+use Rattle.mk_words.specs.Checks.{KeyAct, checks, commits_of, releases_of, finish_acts}
+use Rattle.mk_words.specs.Validations.{ValidationState, next_act, after_answer, vote_of}
+use Rattle.mk_model.specs.ColumnState.{AttemptState, Work, attempt_of}
+use Rattle.mk_model.specs.ColumnState.Work.{Idle, Fetching, Validating, Finishing}
+use Rattle.mk_model.specs.Replicas.{serves, finishing}
+use Rattle.mk_model.specs.Steps.{epoch_of, with_read}
 use Rattle.mk_column_laws.specs.Moments.{Moment, PastAct, PastEntry}
 use Rattle.mk_column_laws.specs.Moves.{undated, past_opened}
 

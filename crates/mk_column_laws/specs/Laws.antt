@@ -7,26 +7,26 @@ use Rattle.mk_txn.specs.declared.Vote.{Vote}
 use Rattle.mk_txn.specs.declared.Accepted.{Accepted}
 use Rattle.mk_txn.specs.declared.Outcome.{Outcome}
 use Rattle.mk_txn.specs.Outcomes.{is_commit, agrees}
-use Rattle.mk_record.specs.declared.Entry.{Entry}
-use Rattle.mk_record.specs.Entries.{entry_of}
+use Rattle.mk_words.specs.declared.Entry.{Entry}
+use Rattle.mk_words.specs.Entries.{entry_of}
 use Rattle.mk_quorum.specs.Slots.{slot}
-use Rattle.mk_msg.specs.declared.Told.{Told}
-use Rattle.mk_msg.specs.declared.Moved.{Moved}
-use Rattle.mk_msg.specs.declared.Msg.{Msg}
-use Rattle.mk_msg.specs.declared.Body.TheVariants.{Voted, Accepted as AcceptedBody, Decide, Told as ToldBody, Moved as MovedBody}
-use Rattle.mk_coord.specs.declared.Ruling.TheVariants.{Fast, Propose}
-use Rattle.mk_coord.specs.Rulings.{by_votes}
-use Rattle.mk_takeover.specs.declared.Pick.TheVariants.{Propose as PickPropose}
-use Rattle.mk_takeover.specs.Picks.{by_promises}
-use Rattle.mk_column.specs.ColumnState.{AttemptState, TakeoverOf, Learning, attempt_of, takeover_of, entries_at}
-use Rattle.mk_column.specs.ColumnState.Way.{ByVotes}
-use Rattle.mk_column.specs.Replicas.{serves}
-use Rattle.mk_column.specs.Answers.{moved_outcome}
-use Rattle.mk_column.specs.Learnings.{learning}
+use Rattle.mk_words.specs.declared.Told.{Told}
+use Rattle.mk_words.specs.declared.Moved.{Moved}
+use Rattle.mk_words.specs.declared.Msg.{Msg}
+use Rattle.mk_words.specs.declared.Body.TheVariants.{Voted, Accepted as AcceptedBody, Decide, Told as ToldBody, Moved as MovedBody}
+use Rattle.mk_words.specs.declared.Ruling.TheVariants.{Fast, Propose}
+use Rattle.mk_words.specs.Rulings.{by_votes}
+use Rattle.mk_words.specs.declared.Pick.TheVariants.{Propose as PickPropose}
+use Rattle.mk_words.specs.Picks.{by_promises}
+use Rattle.mk_model.specs.ColumnState.{AttemptState, TakeoverOf, Learning, attempt_of, takeover_of, entries_at}
+use Rattle.mk_model.specs.ColumnState.Way.{ByVotes}
+use Rattle.mk_model.specs.Replicas.{serves}
+use Rattle.mk_model.specs.Answers.{moved_outcome}
+use Rattle.mk_model.specs.Learnings.{learning}
 use Rattle.mk_column_laws.specs.Moments.{Moment, PastEntry, Taught, StaysTaught, IsReached, Event, CanHappen, EachHappens, after_event, moment_through}
-use Rattle.mk_column.specs.Sending.{Sent, Proposed}
+use Rattle.mk_model.specs.Sending.{Sent, Proposed}
 use Rattle.mk_column_laws.specs.Messages.{VotesIn, RepliesIn, taking_over}
-use Rattle.mk_column.specs.Deciding.{IsDecided, IsChosen}
+use Rattle.mk_model.specs.Deciding.{IsDecided, IsChosen}
 use Rattle.mk_column_laws.specs.Moves.{Moves, HasProposed, IsStampedIn, entry_of_past}
 use Rattle.mk_column_laws.specs.Facts.{Facts, Grows, IsBacked, IsSupported, IsTaught, ToldFacts, AcceptFacts}
 

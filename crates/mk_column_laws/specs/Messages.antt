@@ -3,12 +3,12 @@ use Rattle.std.specs.Prelude.{◌≡◌, ℕ, ◌<◌, List, [], Option, Some, N
 use Rattle.mk_txn.specs.declared.TxnId.{TxnId}
 use Rattle.mk_txn.specs.declared.Vote.{Vote}
 use Rattle.mk_txn.specs.declared.Accepted.{Accepted}
-use Rattle.mk_msg.specs.declared.Told.{Told}
-use Rattle.mk_msg.specs.declared.Msg.{Msg}
-use Rattle.mk_msg.specs.declared.Body.TheVariants.{Voted, Told as ToldBody}
+use Rattle.mk_words.specs.declared.Told.{Told}
+use Rattle.mk_words.specs.declared.Msg.{Msg}
+use Rattle.mk_words.specs.declared.Body.TheVariants.{Voted, Told as ToldBody}
 use Rattle.mk_quorum.specs.Slots.{slot}
-use Rattle.mk_takeover.specs.Picks.{TakeoverState}
-use Rattle.mk_column.specs.Sending.{Sent}
+use Rattle.mk_words.specs.Picks.{TakeoverState}
+use Rattle.mk_model.specs.Sending.{Sent}
 
 -- each of these votes was sent by its replica
 abbrev pub VotesIn : List Msg → TxnId → List (Option Vote) → Type 0

@@ -6,21 +6,21 @@ use Rattle.mk_txn.specs.declared.Vote.{Vote}
 use Rattle.mk_txn.specs.declared.Accepted.{Accepted}
 use Rattle.mk_txn.specs.declared.Outcome.{Outcome}
 use Rattle.mk_txn.specs.Transactions.{Transaction}
-use Rattle.mk_cell.specs.declared.Act.{Act}
-use Rattle.mk_cell.specs.declared.Answer.{Answer}
-use Rattle.mk_record.specs.declared.Entry.{Entry}
-use Rattle.mk_record.specs.Entries.{entry_of}
-use Rattle.mk_trim.specs.KeptOutcomes.{known_of}
-use Rattle.mk_merge.specs.declared.ReplicaView.{ReplicaView}
-use Rattle.mk_column.specs.declared.Step.{Step}
-use Rattle.mk_column.specs.declared.Step.TheVariants.{Key}
-use Rattle.mk_column.specs.ColumnState.{Setting, ColumnState, new_column, entries_at, attempt_of}
-use Rattle.mk_column.specs.ColumnState.Work.{Idle}
-use Rattle.mk_column.specs.Conditions.{blocked}
-use Rattle.mk_column.specs.Replicas.{serves, is_serving}
-use Rattle.mk_column.specs.Answers.{outcome_after}
-use Rattle.mk_column.specs.Steps.{column_after, epoch_of}
-use Rattle.mk_column.specs.Logs.{reading_ended, replica_reset}
+use Rattle.mk_words.specs.declared.Act.{Act}
+use Rattle.mk_words.specs.declared.Answer.{Answer}
+use Rattle.mk_words.specs.declared.Entry.{Entry}
+use Rattle.mk_words.specs.Entries.{entry_of}
+use Rattle.mk_words.specs.KeptOutcomes.{known_of}
+use Rattle.mk_trim.specs.declared.ReplicaView.{ReplicaView}
+use Rattle.mk_words.specs.declared.Step.{Step}
+use Rattle.mk_words.specs.declared.Step.TheVariants.{Key}
+use Rattle.mk_model.specs.ColumnState.{Setting, ColumnState, new_column, entries_at, attempt_of}
+use Rattle.mk_model.specs.ColumnState.Work.{Idle}
+use Rattle.mk_model.specs.Conditions.{blocked}
+use Rattle.mk_model.specs.Replicas.{serves, is_serving}
+use Rattle.mk_model.specs.Answers.{outcome_after}
+use Rattle.mk_model.specs.Steps.{column_after, epoch_of}
+use Rattle.mk_model.specs.Logs.{reading_ended, replica_reset}
 
 -- ---- what is remembered
 

@@ -8,35 +8,35 @@ use Rattle.mk_txn.specs.declared.Vote.{Vote}
 use Rattle.mk_txn.specs.declared.Outcome.{Outcome}
 use Rattle.mk_txn.specs.Stamps.{next_stamp_of}
 use Rattle.mk_txn.specs.Transactions.{Transaction}
-use Rattle.mk_cell.specs.declared.Answer.{Answer}
-use Rattle.mk_record.specs.declared.Entry.{Entry}
-use Rattle.mk_record.specs.Entries.{entry_of}
-use Rattle.mk_msg.specs.declared.Told.{Told}
-use Rattle.mk_msg.specs.declared.Moved.{Moved}
-use Rattle.mk_msg.specs.declared.Msg.{Msg}
-use Rattle.mk_msg.specs.declared.Body.TheVariants.{Validate as ValidateBody, Voted, Accept, Accepted as AcceptedBody, Decide, Ask, Told as ToldBody, Moved as MovedBody}
+use Rattle.mk_words.specs.declared.Answer.{Answer}
+use Rattle.mk_words.specs.declared.Entry.{Entry}
+use Rattle.mk_words.specs.Entries.{entry_of}
+use Rattle.mk_words.specs.declared.Told.{Told}
+use Rattle.mk_words.specs.declared.Moved.{Moved}
+use Rattle.mk_words.specs.declared.Msg.{Msg}
+use Rattle.mk_words.specs.declared.Body.TheVariants.{Validate as ValidateBody, Voted, Accept, Accepted as AcceptedBody, Decide, Ask, Told as ToldBody, Moved as MovedBody}
 use Rattle.mk_quorum.specs.Slots.{passes}
 use Rattle.mk_txn.specs.Outcomes.{is_ok_vote}
-use Rattle.mk_valid.specs.Checks.{KeyAct, finish_acts}
-use Rattle.mk_valid.specs.Validations.{ValidationState, validation_of, next_act, after_answer, vote_of}
-use Rattle.mk_trim.specs.KeptOutcomes.{known_of}
+use Rattle.mk_words.specs.Checks.{KeyAct, finish_acts}
+use Rattle.mk_words.specs.Validations.{ValidationState, validation_of, next_act, after_answer, vote_of}
+use Rattle.mk_words.specs.KeptOutcomes.{known_of}
 use Rattle.mk_quorum.specs.Sizes.{members}
-use Rattle.mk_merge.specs.declared.ReplicaView.{ReplicaView}
-use Rattle.mk_coord.specs.declared.Ruling.TheVariants.{Fast, Propose, Learned}
-use Rattle.mk_coord.specs.Rulings.{ruling, new_coord}
-use Rattle.mk_takeover.specs.declared.Pick.TheVariants.{Known, Learned as PickLearned, Propose as PickPropose}
-use Rattle.mk_takeover.specs.Picks.{pick, new_takeover}
-use Rattle.mk_column.specs.ColumnState.{ColumnState, AttemptState, TakeoverOf, ClientState, Work, Learning, attempt_of, takeover_of, client_of, entries_at}
-use Rattle.mk_column.specs.ColumnState.Work.{Idle, Fetching, Validating, Finishing}
-use Rattle.mk_column.specs.ColumnState.Way.{ByVotes, ByAccepts, ByPick, ByMoved, ByTelling, ByFinishing}
-use Rattle.mk_column.specs.Replicas.{serves, is_serving, told_of}
-use Rattle.mk_column.specs.Answers.{attempt_answered, takeover_answered, moved_outcome}
-use Rattle.mk_column.specs.Learnings.{learning}
-use Rattle.mk_column.specs.Steps.{with_txn, with_read, proposing, taught as having_learned, closing, takeover_proposing}
-use Rattle.mk_column.specs.Conditions.{writes_fit, may_read}
-use Rattle.mk_column.specs.Logs.{not_reading}
+use Rattle.mk_trim.specs.declared.ReplicaView.{ReplicaView}
+use Rattle.mk_words.specs.declared.Ruling.TheVariants.{Fast, Propose, Learned}
+use Rattle.mk_words.specs.Rulings.{ruling, new_coord}
+use Rattle.mk_words.specs.declared.Pick.TheVariants.{Known, Learned as PickLearned, Propose as PickPropose}
+use Rattle.mk_words.specs.Picks.{pick, new_takeover}
+use Rattle.mk_model.specs.ColumnState.{ColumnState, AttemptState, TakeoverOf, ClientState, Work, Learning, attempt_of, takeover_of, client_of, entries_at}
+use Rattle.mk_model.specs.ColumnState.Work.{Idle, Fetching, Validating, Finishing}
+use Rattle.mk_model.specs.ColumnState.Way.{ByVotes, ByAccepts, ByPick, ByMoved, ByTelling, ByFinishing}
+use Rattle.mk_model.specs.Replicas.{serves, is_serving, told_of}
+use Rattle.mk_model.specs.Answers.{attempt_answered, takeover_answered, moved_outcome}
+use Rattle.mk_model.specs.Learnings.{learning}
+use Rattle.mk_model.specs.Steps.{with_txn, with_read, proposing, taught as having_learned, closing, takeover_proposing}
+use Rattle.mk_model.specs.Conditions.{writes_fit, may_read}
+use Rattle.mk_model.specs.Logs.{not_reading}
 use Rattle.mk_column_laws.specs.Moments.{Moment, PastEntry}
-use Rattle.mk_column.specs.Sending.{Sent, Proposed}
+use Rattle.mk_model.specs.Sending.{Sent, Proposed}
 
 -- ---- attempts
 

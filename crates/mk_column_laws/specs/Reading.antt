@@ -4,11 +4,11 @@ use Rattle.mk_lists.specs.Among.{Among}
 use Rattle.mk_txn.specs.declared.TxnId.{TxnId}
 use Rattle.mk_txn.specs.declared.ReadItem.{ReadItem}
 use Rattle.mk_txn.specs.Transactions.{Transaction}
-use Rattle.mk_cell.specs.declared.Act.TheVariants.{Get}
-use Rattle.mk_cell.specs.declared.Answer.TheVariants.{Version}
-use Rattle.mk_column.specs.ColumnState.{AttemptState, Work, attempt_of}
-use Rattle.mk_column.specs.ColumnState.Work.{Fetching}
-use Rattle.mk_column.specs.Replicas.{serves}
+use Rattle.mk_words.specs.declared.Act.TheVariants.{Get}
+use Rattle.mk_words.specs.declared.Answer.TheVariants.{Version}
+use Rattle.mk_model.specs.ColumnState.{AttemptState, Work, attempt_of}
+use Rattle.mk_model.specs.ColumnState.Work.{Fetching}
+use Rattle.mk_model.specs.Replicas.{serves}
 use Rattle.mk_column_laws.specs.Moments.{Moment}
 use Rattle.mk_column_laws.specs.KeyActs.{WasDone}
 use Rattle.mk_column_laws.specs.Laws.{AlwaysHolds}

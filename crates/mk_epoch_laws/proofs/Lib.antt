@@ -1,13 +1,13 @@
-mod LineNews
-mod Extending
-mod EpochFacts
-mod ReplicasKept
-mod PromisesTaken
-mod FactsKept
-mod Turning
-mod Resetting
-mod Paths
-mod SourceKept
-mod Stated
-mod PromisesFit
-mod ReachedCalls
+pub mod LineNews
+pub mod Extending
+pub mod EpochFacts
+pub mod ReplicasKept
+pub mod PromisesTaken
+pub mod FactsKept
+pub mod Turning
+pub mod Resetting
+pub mod Paths
+pub mod SourceKept
+pub mod Stated
+pub mod HandedTxns
+pub mod PromisesFit

@@ -3,22 +3,25 @@ use Rattle.std.proofs.Common.{◌≡◌, ◌⊎◌, ◌<◌, ◌≤◌, ◌+◌,
 use Rattle.std.specs.Prelude.{is_some, ◌==◌}
 use Rattle.std.specs.List.{list_any}
 use Rattle.std.proofs.lemmas.List.{length-map}
+use Rattle.std.proofs.lemmas.Bool.{eqb-true, cases_lt}
+use Rattle.std.proofs.lemmas.Option.{slice_get_within}
 use Rattle.mk_lists.specs.Among.{Among}
-use Rattle.mk_txn.proofs.ClashFacts.{member-from_list_any}
+use Rattle.mk_lists.proofs.Tests.{Among-from_list_any}
+use Rattle.mk_lists.proofs.Members.{Among-from_map}
 use Rattle.mk_quorum.specs.Sizes.{members, majority_of}
 use Rattle.mk_quorum.proofs.Meeting.{majorities_meet}
-use Rattle.mk_merge.specs.Bases.{BaseState, empty_base}
-use Rattle.mk_merge.specs.Promises.{PromiseState, can_merge, chosen, highest_adopted}
-use Rattle.mk_epoch.specs.EpochState.{GivenPromise, Adoption, EpochState, MadeBase, promises_for, made_for, base_for, ever_adopted, adopters}
-use Rattle.mk_epoch.specs.Force.{InForce, LeadsToMajority, source_of}
+use Rattle.mk_words.specs.Bases.{BaseState, empty_base}
+use Rattle.mk_words.specs.Promises.{PromiseState, can_merge, chosen, highest_adopted}
+use Rattle.mk_model.specs.EpochState.{GivenPromise, Adoption, EpochState, MadeBase, promises_for, made_for, base_for, ever_adopted, adopters}
+use Rattle.mk_model.specs.Force.{InForce, LeadsToMajority, source_of}
+use Rattle.mk_basic_laws.proofs.ListCounting.{list_counts}
 use Rattle.mk_epoch_laws.specs.BaseLaws.{IsMade, IsHeld}
 use Rattle.mk_epoch_laws.specs.PathLaws.{EpochsInOrder, IsBuiltOn, down, PathsPass}
-use Rattle.mk_merge_laws.proofs.ListLaws.{eqb-tells, slice_get-below}
 use Rattle.mk_epoch_laws.proofs.EpochFacts.{EpochFacts}
 use Rattle.mk_epoch_laws.proofs.FactsKept.{given_of}
 use Rattle.mk_epoch_laws.proofs.ReplicasKept.{made_there}
 use Rattle.mk_epoch_laws.proofs.Resetting.{adoption_of, held_was_made}
-use Rattle.mk_epoch_laws.proofs.PromisesTaken.{replicas_of, of_replica, count_distinct, each_below, chosen_distinct, chosen_majority, chosen_member, highest_above, highest_is, highest_below}
+use Rattle.mk_epoch_laws.proofs.PromisesTaken.{replicas_of, each_below, chosen_distinct, chosen_majority, chosen_member, highest_above, highest_is, highest_below}
 
 pub at_most : (a b : ℕ) → a ≤ b → (b ≡ a) ⊎ (a < b)
 at_most zero zero h = inl refl
@@ -26,18 +29,13 @@ at_most zero (suc b) h = inr (omega arith)
 at_most (suc a) zero h = absurd (omega (arith, h))
 at_most (suc a) (suc b) h = elim (at_most a b (omega (arith, h))) [ inl p ↦ inl (ap suc p) | inr q ↦ inr (omega (arith, q)) ]
 
-pub either_way : (a b : ℕ) → (a ≤ b) ⊎ (b < a)
-either_way zero b = inl (omega arith)
-either_way (suc a) zero = inr (omega arith)
-either_way (suc a) (suc b) = elim (either_way a b) [ inl p ↦ inl (omega (arith, p)) | inr q ↦ inr (omega (arith, q)) ]
-
 -- a base that an epoch has is epoch 0's, or stands among those that were made
 pub made_or_first : (state : EpochState) (e : ℕ) → IsMade state e → (e ≡ 0) ⊎ ((m : MadeBase) × Among m state.made × (m.epoch ≡ e) × (base_for e state ≡ Some m.base))
 made_or_first state e is = by (e == 0) refl (made_for e state) refl is
   where
     by : (b : Bool) → (e == 0) ≡ b → (o : Option BaseState) → made_for e state ≡ o → is_some (cond b (Some empty_base) o) ≡ true →
         (e ≡ 0) ⊎ ((m : MadeBase) × Among m state.made × (m.epoch ≡ e) × (cond b (Some empty_base) (made_for e state) ≡ Some m.base))
-    by true z o k is = inl (eqb-tells e 0 z)
+    by true z o k is = inl (eqb-true e 0 z)
     by false z None k is = absurd (cc is)
     by false z (Some base) k is = let m = made_there state e base k in inr (m.0, m.1, m.2, k ∙ ap Some (sym m.3))
 
@@ -51,7 +49,7 @@ module _ (state : EpochState) (h : EpochFacts state) where
       let epoch = g.2 in
       omega (arith, low, same, epoch)
 
-  taken_given : (e : ℕ) (p : PromiseState) → Among p (chosen state.faults e (promises_for e state)) → can_merge state.faults e (promises_for e state) ≡ true → Among p (promises_for e state)
+  pub taken_given : (e : ℕ) (p : PromiseState) → Among p (chosen state.faults e (promises_for e state)) → can_merge state.faults e (promises_for e state) ≡ true → Among p (promises_for e state)
   taken_given e p a may = chosen_member state.faults e (promises_for e state) (h.one_promise e) may p a
 
   pub source_below : (m : MadeBase) → Among m state.made → source_of state m.epoch < m.epoch
@@ -116,6 +114,17 @@ module _ (state : EpochState) (h : EpochFacts state) where
       let top = highest_above p (chosen state.faults m.epoch (promises_for m.epoch state)) taken in
       omega (arith, knows, adopted, top)
 
+  -- who gave a promise is one of the replicas
+  pub promiser_there : (g : GivenPromise) → Among g state.promises → g.promise.replica < members state.faults
+  promiser_there g a =
+      let k = (h.given g a).of_member in
+      let low = slice_get_within state.replicas g.promise.replica k.0 k.1 in
+      let all = h.all_there in
+      omega (arith, low, all)
+
+  pub inside : (e : ℕ) (p : PromiseState) → Among p (promises_for e state) → p.replica < members state.faults
+  inside e p b = let g = given_of e state p b in subst (λ (x : PromiseState). x.replica < members state.faults) g.3 (promiser_there g.0 g.1)
+
   -- the promises of a base and the adopters of an epoch below share a replica
   promises_know : (held : ℕ) (m : MadeBase) → Among m state.made → held < m.epoch → majority_of state.faults ≤ adopters held state → held ≤ source_of state m.epoch
   promises_know held m a lt many =
@@ -124,24 +133,15 @@ module _ (state : EpochState) (h : EpochFacts state) where
       let may = (h.well m a).could in
       let distinct = h.one_promise m.epoch in
       let cs = chosen f m.epoch ps in
-      let counted = count_distinct (members f) (replicas_of cs) (chosen_distinct f m.epoch ps distinct may)
-      (each_below (members f) cs (λ p b. inside p (taken_given m.epoch p b may))) in
+      let counted = list_counts (members f) (replicas_of cs) (chosen_distinct f m.epoch ps distinct may)
+      (each_below (members f) cs (λ p b. inside m.epoch p (taken_given m.epoch p b may))) in
       let long = chosen_majority f m.epoch ps distinct may in
       let same_long = length-map cs (λ (p : PromiseState). p.replica) in
       let r = majorities_meet f (ever_adopted held state) (λ r. list_any (λ x. x == r) (replicas_of cs)) many (omega (arith, counted, long, same_long)) in
-      let x = member-from_list_any (λ y. y == r.0) (replicas_of cs) r.3 in
-      let p = of_replica x.0 cs x.1 in
+      let x = Among-from_list_any (λ y. y == r.0) (replicas_of cs) r.3 in
+      let p = Among-from_map (λ (p : PromiseState). p.replica) x.0 cs x.1 in
       let b = adoption_of held state r.0 r.2 in
-      taken_know held m a lt p.0 p.1 b.0 b.1 b.2 (b.3 ∙ sym (eqb-tells x.0 r.0 x.2) ∙ sym p.2)
-    where
-      inside : (p : PromiseState) → Among p (promises_for m.epoch state) → p.replica < members state.faults
-      inside p b =
-          let g = given_of m.epoch state p b in
-          let k = (h.given g.0 g.1).of_member in
-          let low = slice_get-below state.replicas g.0.promise.replica k.0 k.1 in
-          let same = ap (λ (x : PromiseState). x.replica) g.3 in
-          let all = h.all_there in
-          omega (arith, low, same, all)
+      taken_know held m a lt p.0 p.1 b.0 b.1 b.2 (b.3 ∙ sym (eqb-true x.0 r.0 x.2) ∙ sym p.2)
 
   pub in_order : EpochsInOrder state
   in_order held made (inl first) is lt = omega (arith, first)
@@ -222,8 +222,8 @@ module _ (state : EpochState) (h : EpochFacts state) where
       let made = force_made e force in
       let held_made = held_was_made state h held holds in
       let top_made = held_was_made state h k.0 k.1 in
-      let le : e ≤ held = elim (either_way e held) [ inl p ↦ p | inr q ↦ (let order = in_order held e holds made q in absurd (omega (arith, order, lt))) ] in
-      elim (either_way k.0 held) [
-        | inl p ↦ built_further held k.0 e (paths_pass k.0 held k.1 held_made p) k.2
-        | inr q ↦ built_between k.0 held e top_made (paths_pass held k.0 holds top_made (omega (arith, q))) k.2 le
+      let le : e ≤ held = elim (cases_lt held e) [ inr p ↦ p | inl q ↦ (let order = in_order held e holds made q in absurd (omega (arith, order, lt))) ] in
+      elim (cases_lt held k.0) [
+        | inr p ↦ built_further held k.0 e (paths_pass k.0 held k.1 held_made p) k.2
+        | inl q ↦ built_between k.0 held e top_made (paths_pass held k.0 holds top_made (omega (arith, q))) k.2 le
       ]

@@ -1,23 +1,28 @@
 -- The laws as they are stated.
-use Rattle.std.proofs.Common.{◌≡◌, ◌<◌, ◌≤◌, ℕ, zero, suc, refl, arith, inl, inr, sym, ap, ◌∙◌, subst}
-use Rattle.std.specs.Prelude.{is_some}
-use Rattle.mk_lists.specs.Among.{Among}
+use Rattle.std.proofs.Common.{◌≡◌, ◌<◌, ◌≤◌, ℕ, zero, suc, refl, arith, inl, inr, sym, ap, ◌∙◌, List, [], ◌∷◌, Option, Some, None, subst}
+use Rattle.std.specs.Prelude.{is_some, ◌==◌}
+use Rattle.std.proofs.lemmas.Bool.{eq-eqb, eqb-true, cases_lt}
+use Rattle.mk_lists.specs.Among.{Among, Each}
+use Rattle.mk_lists.proofs.Members.{Among-filter, Among-from_filter}
+use Rattle.mk_quorum.specs.Sizes.{members}
 use Rattle.mk_txn.specs.declared.TxnId.{TxnId}
-use Rattle.mk_merge.specs.Promises.{highest_adopted, chosen}
-use Rattle.mk_epoch.specs.EpochState.{EpochState, MadeBase, promises_for}
-use Rattle.mk_epoch.specs.Force.{source_of}
+use Rattle.mk_words.specs.Bases.{BaseState}
+use Rattle.mk_words.specs.Promises.{PromiseState, highest_adopted, chosen, base_of}
+use Rattle.mk_model.specs.EpochState.{EpochState, GivenPromise, MadeBase, promises_for, base_for}
+use Rattle.mk_model.specs.Force.{source_of}
 use Rattle.mk_epoch_laws.specs.Turns.{Always, AlwaysLater}
-use Rattle.mk_epoch_laws.specs.WordLaws.{WordsBound, PhaseAndWord, AdoptedOnTop, AdoptsOnce, PromiseGap, OnePromiseEach}
-use Rattle.mk_epoch_laws.specs.BaseLaws.{IsMade, IsHeld, IsWellMade, BasesMade, BasesStay, BasesHeld, taken_for}
+use Rattle.mk_epoch_laws.specs.WordLaws.{WordsBound, PhaseAndWord, AdoptedOnTop, AdoptsOnce, PromiseGap, OnePromiseEach, PromisersAreThere}
+use Rattle.mk_epoch_laws.specs.BaseLaws.{IsMade, IsHeld, IsWellMade, BasesMade, BasesStay, BasesHeld, KeptGrows, CountedOf, CountedAreGiven, taken_for, counted_for}
 use Rattle.mk_epoch_laws.specs.PathLaws.{EpochsInOrder, IsBuiltOn, down, PathsPass, PathsStay, outcome_in, AddsItsSource, PathsKeep, HeldStands, ForceInOrder, ForceInLine}
-use Rattle.mk_epoch_laws.proofs.Extending.{keeps_held, Extends, keeps_made, later_promises}
+use Rattle.mk_epoch_laws.proofs.Extending.{keeps_promise, keeps_had, keeps_base_for, keeps_held, Extends, keeps_made, later_promises}
 use Rattle.mk_epoch_laws.proofs.EpochFacts.{EpochFacts}
+use Rattle.mk_epoch_laws.proofs.FactsKept.{given_of}
 use Rattle.mk_epoch_laws.proofs.ReplicasKept.{base_made}
-use Rattle.mk_epoch_laws.proofs.PromisesTaken.{chosen_stays, chosen_majority, chosen_distinct, chosen_leader}
+use Rattle.mk_epoch_laws.proofs.PromisesTaken.{chosen_stays, chosen_majority, chosen_distinct, chosen_leader, distinct-filter}
 use Rattle.mk_epoch_laws.proofs.Resetting.{held_was_made}
 use Rattle.mk_epoch_laws.proofs.Turning.{always, always_later}
-use Rattle.mk_epoch_laws.proofs.Paths.{made_or_first, source_below, source_made, in_order, paths_pass, built_made, built_further, down_le, further_made, forced, force_under, either_way, at_most, source_zero}
-use Rattle.mk_epoch_laws.proofs.SourceKept.{source_kept}
+use Rattle.mk_epoch_laws.proofs.Paths.{promiser_there, inside, taken_given, made_or_first, source_below, source_made, in_order, paths_pass, built_made, built_further, down_le, further_made, forced, force_under, at_most, source_zero}
+use Rattle.mk_epoch_laws.proofs.SourceKept.{source_kept, counted_base}
 
 pub words_bound : Always WordsBound
 words_bound = always WordsBound (λ state h r replica at. ((h.each r replica at).had_below, (h.each r replica at).promised_below))
@@ -36,6 +41,9 @@ promise_gap = always PromiseGap (λ state h g a. ((h.given g a).lower, (h.given 
 
 pub one_promise_each : Always OnePromiseEach
 one_promise_each = always OnePromiseEach (λ state h. h.one_promise)
+
+pub promisers_are_there : Always PromisersAreThere
+promisers_are_there = always PromisersAreThere (λ state h. promiser_there state h)
 
 pub bases_made : Always BasesMade
 bases_made = always BasesMade (λ state h. record { well = λ m a. well state h m a; once = h.made_once })
@@ -65,6 +73,45 @@ taken_stays early late h grown m a =
 
 pub bases_stay : AlwaysLater BasesStay
 bases_stay = always_later BasesStay (λ early late h k grown m a. (keeps_made early late grown m a, taken_stays early late h grown m a))
+
+pub kept_grows : AlwaysLater KeptGrows
+kept_grows = always_later KeptGrows (λ early late h k grown.
+    record {
+      same_faults = grown.same_faults;
+      promises = keeps_promise early late grown;
+      had = keeps_had early late grown;
+      held = keeps_held early late grown;
+      bases = keeps_base_for early late grown;
+    })
+
+pub counted_are_given : Always CountedAreGiven
+counted_are_given = always CountedAreGiven (λ state h m a. counted state h m a)
+  where
+    counted : (state : EpochState) → EpochFacts state → (m : MadeBase) → Among m state.made → CountedOf state m
+    counted state h m a =
+        let may = (h.well m a).could in
+        let ps = promises_for m.epoch state in
+        let top = highest_adopted (chosen state.faults m.epoch ps) in
+        record {
+          of_replicas = record {
+            different = distinct-filter (λ p. p.adopted == top) (chosen state.faults m.epoch ps) (chosen_distinct state.faults m.epoch ps (h.one_promise m.epoch) may);
+            within = each_in (counted_for state m.epoch) (λ p b. inside state h m.epoch p (taken_given state h m.epoch p (Among-from_filter (λ q. q.adopted == top) p (chosen state.faults m.epoch ps) b).0 may));
+          };
+          source = λ p b. eqb-true p.adopted top (Among-from_filter (λ q. q.adopted == top) p (chosen state.faults m.epoch ps) b).1;
+          all = λ p b same. Among-filter (λ q. q.adopted == top) p (chosen state.faults m.epoch ps) b (eq-eqb p.adopted top same);
+          taken = λ p b. (Among-from_filter (λ q. q.adopted == top) p (chosen state.faults m.epoch ps) b).0;
+          base = based (base_for (source_of state m.epoch) state) refl;
+          given = λ p b. let g = given_of m.epoch state p (taken_given state h m.epoch p b may) in subst (λ (x : GivenPromise). Among x state.promises) (λ i. record { epoch = g.2 i; promise = g.3 i }) g.1;
+          list = (h.well m a).is_merged;
+        }
+      where
+        each_in : (qs : List PromiseState) → ((p : PromiseState) → Among p qs → p.replica < members state.faults) → Each (λ p. p.replica < members state.faults) qs
+        each_in [] k = tt
+        each_in (q ∷ qs) k = (k q (inl refl), each_in qs (λ p b. k p (inr b)))
+
+        based : (o : Option BaseState) → base_for (source_of state m.epoch) state ≡ o → o ≡ Some (base_of (counted_for state m.epoch))
+        based None k = absurd (cc (sym (ap is_some k) ∙ source_made state h m a))
+        based (Some base) k = ap Some (sym (counted_base state h m a base k))
 
 pub bases_held : Always BasesHeld
 bases_held = always BasesHeld (λ state h.
@@ -138,7 +185,7 @@ pub force_in_line : Always ForceInLine
 force_in_line = always ForceInLine (λ state h epoch_of adds one other id f g lt lt_other.
     let p = forced state h one f in
     let q = forced state h other g in
-    elim (either_way p.0 q.0) [
-      | inl le ↦ half state h epoch_of adds one other id p q le lt lt_other
-      | inr over ↦ sym (half state h epoch_of adds other one id q p (omega (arith, over)) lt_other lt)
+    elim (cases_lt q.0 p.0) [
+      | inr le ↦ half state h epoch_of adds one other id p q le lt lt_other
+      | inl over ↦ sym (half state h epoch_of adds other one id q p (omega (arith, over)) lt_other lt)
     ])

@@ -2,14 +2,16 @@
 use Rattle.std.specs.Prelude.{◌≡◌, ◌⊎◌, ◌≤◌, ◌<◌, ℕ, true, false, List, ◌∷◌, length, map, Some, is_some}
 use Rattle.mk_lists.specs.Among.{Among, AllDistinct}
 use Rattle.mk_quorum.specs.Sizes.{majority_of}
-use Rattle.mk_merge.specs.declared.Phase.TheVariants.{Serving}
-use Rattle.mk_merge.specs.Promises.{PromiseState, chosen, leader_of}
-use Rattle.mk_merge.specs.Merging.{merged}
-use Rattle.mk_epoch.specs.EpochState.{EpochState, ReplicaState, GivenPromise, MadeBase, Adoption, first_epochs, promises_for, base_for, adopters}
-use Rattle.mk_epoch.specs.GlobalAnswers.{lacks}
-use Rattle.mk_epoch.specs.Force.{source_of}
+use Rattle.mk_words.specs.declared.Phase.TheVariants.{Serving}
+use Rattle.mk_words.specs.Bases.{BaseState}
+use Rattle.mk_words.specs.Promises.{PromiseState, chosen, counting, base_of, leader_of}
+use Rattle.mk_words.specs.Merging.{merged, merged_from}
+use Rattle.mk_merge_laws.specs.Composition.{AreOfReplicas}
+use Rattle.mk_model.specs.EpochState.{EpochState, ReplicaState, GivenPromise, MadeBase, Adoption, first_epochs, promises_for, base_for, adopters}
+use Rattle.mk_model.specs.GlobalAnswers.{lacks}
+use Rattle.mk_model.specs.Force.{source_of}
 use Rattle.mk_epoch_laws.specs.Turns.{GlobalTurn, after_turns, EachAnswered, WasEntered, Resets}
-use Rattle.mk_epoch_laws.specs.WordLaws.{IsAt}
+use Rattle.mk_epoch_laws.specs.WordLaws.{IsAt, EverHad}
 
 -- the epoch has a base; epoch 0 has one from the start
 abbrev pub IsMade : EpochState → ℕ → Type 0
@@ -43,6 +45,33 @@ abbrev pub BasesStay : EpochState → EpochState → Type 0
 BasesStay early late =
     (made : MadeBase) → Among made early.made →
     Among made late.made × (taken_for late made.epoch ≡ taken_for early made.epoch)
+
+-- what was promised, adopted, held by a majority and made stays so
+pub record KeptGrows (early late : EpochState) : Type 0 where
+  pub same_faults : late.faults ≡ early.faults
+  pub promises : (given : GivenPromise) → Among given early.promises → Among given late.promises
+  pub had : (r epoch : ℕ) → EverHad early r epoch → EverHad late r epoch
+  pub held : (epoch : ℕ) → IsHeld early epoch → IsHeld late epoch
+  pub bases : (epoch : ℕ) (base : BaseState) → base_for epoch early ≡ Some base → base_for epoch late ≡ Some base
+
+-- the promises that count for the base of this epoch: of those of which it is made the ones of the highest adopted epoch
+abbrev pub counted_for : EpochState → ℕ → List PromiseState
+counted_for state epoch = counting (taken_for state epoch)
+
+-- a base that was made is the merge of the promises that count: they are of different replicas, were given for its epoch,
+-- and are all those of its source's epoch among the promises of which it is made; their base is its source's
+pub record CountedOf (state : EpochState) (made : MadeBase) : Type 0 where
+  pub of_replicas : AreOfReplicas state.faults (counted_for state made.epoch)
+  pub source : (p : PromiseState) → Among p (counted_for state made.epoch) → p.adopted ≡ source_of state made.epoch
+  pub all : (p : PromiseState) → Among p (taken_for state made.epoch) → p.adopted ≡ source_of state made.epoch → Among p (counted_for state made.epoch)
+  pub taken : (p : PromiseState) → Among p (counted_for state made.epoch) → Among p (taken_for state made.epoch)
+  pub base : base_for (source_of state made.epoch) state ≡ Some (base_of (counted_for state made.epoch))
+  pub given : (p : PromiseState) → Among p (taken_for state made.epoch) → Among (record { epoch = made.epoch; promise = p }) state.promises
+  pub list : made.base ≡ merged_from state.faults made.epoch (counted_for state made.epoch)
+
+-- so each base is made of promises that were given
+abbrev pub CountedAreGiven : EpochState → Type 0
+CountedAreGiven state = (made : MadeBase) → Among made state.made → CountedOf state made
 
 -- a replica holds the base of its epoch, what was adopted was made, and a promise hands in the base of its replica's epoch
 pub record BasesHeld (state : EpochState) : Type 0 where

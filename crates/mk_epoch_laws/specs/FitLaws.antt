@@ -1,17 +1,16 @@
 -- What is handed in with promises, and that every promise then is one of which a base may be made.
 use Rattle.std.specs.Prelude.{◌≡◌, ℕ, List, [], ◌∷◌, ◌++◌, map, flat_map, slice_get, Some, ⊤}
-use Rattle.mk_lists.specs.Among.{Each}
+use Rattle.mk_lists.specs.Among.{Among, Each}
 use Rattle.mk_txn.specs.Transactions.{Transaction, AreCoherent}
-use Rattle.mk_record.specs.declared.Entry.{Entry}
-use Rattle.mk_record.specs.Entries.{HasDistinctIds}
-use Rattle.mk_merge.specs.Promises.{EntryFits, ArePromises}
-use Rattle.mk_global.specs.declared.GlobalLine.{GlobalLine}
-use Rattle.mk_global.specs.declared.GlobalLine.TheVariants.{Wipe, Ask, Promise, Merge, Adopt, Enter}
-use Rattle.mk_global.specs.declared.GlobalAnswer.{GlobalAnswer}
-use Rattle.mk_epoch.specs.EpochState.{EpochState, ReplicaState, first_epochs, promises_for}
-use Rattle.mk_epoch.specs.GlobalSteps.{HandedIn, GlobalStep}
-use Rattle.mk_epoch.specs.Standing.{ReplicasView, StandsFor}
-use Rattle.mk_merge.specs.Bases.{BaseState}
+use Rattle.mk_words.specs.declared.Entry.{Entry}
+use Rattle.mk_words.specs.Entries.{HasDistinctIds}
+use Rattle.mk_words.specs.declared.Fated.{Fated}
+use Rattle.mk_words.specs.Promises.{EntryFits, ArePromises}
+use Rattle.mk_words.specs.declared.GlobalLine.{GlobalLine}
+use Rattle.mk_words.specs.declared.GlobalLine.TheVariants.{Wipe, Ask, Promise, Merge, Adopt, Enter}
+use Rattle.mk_words.specs.declared.GlobalAnswer.{GlobalAnswer}
+use Rattle.mk_model.specs.EpochState.{EpochState, ReplicaState, MadeBase, first_epochs, promises_for}
+use Rattle.mk_model.specs.GlobalSteps.{HandedIn, GlobalStep}
 use Rattle.mk_epoch_laws.specs.Turns.{GlobalTurn, after_turn, after_turns, EachAnswered}
 
 -- the transactions of these entries
@@ -21,6 +20,10 @@ txns_in entries = map (λ (e : Entry). e.txn) entries
 -- the transactions of all entries that were handed in with promises
 abbrev pub handed_txns : EpochState → List Transaction
 handed_txns state = flat_map (λ g. txns_in g.promise.entries) state.promises
+
+-- each base lists only transactions that were handed in
+abbrev pub BasesListHanded : EpochState → Type 0
+BasesListHanded state = (made : MadeBase) → Among made state.made → (f : Fated) → Among f made.base.list → Among f.txn (handed_txns state)
 
 -- what a replica may hand in: different attempts; an Ok vote fits the replica's base, whose marks cover none of them; and
 -- with all that was handed in before, equal numbers mean equal transactions and other numbers have other stamps
@@ -65,7 +68,3 @@ PromisesAreFit = (state : EpochState) → IsReached state → (epoch : ℕ) → 
 -- all that was handed in is coherent
 abbrev pub HandedInIsCoherent : Type 0
 HandedInIsCoherent = (state : EpochState) → IsReached state → AreCoherent (handed_txns state)
-
--- what is kept stands for a state to which such lines lead
-abbrev pub StandsReached : {B : Type 0} → (B → BaseState → Type 0) → ReplicasView B → Type 0
-StandsReached stands kept = (state : EpochState) × IsReached state × StandsFor stands kept state

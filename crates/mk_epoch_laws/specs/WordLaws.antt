@@ -1,11 +1,12 @@
 -- What a replica's word, phase and adopted epoch say of its promises and adoptions.
 use Rattle.std.specs.Prelude.{◌≡◌, ◌⊎◌, ◌≤◌, ◌<◌, ℕ, false, map, Some, slice_get}
 use Rattle.mk_lists.specs.Among.{Among, AllDistinct}
-use Rattle.mk_merge.specs.declared.Phase.{Phase}
-use Rattle.mk_merge.specs.declared.Phase.TheVariants.{Serving, Paused, Adopted, Lacking}
-use Rattle.mk_merge.specs.Bases.{empty_base}
-use Rattle.mk_epoch.specs.EpochState.{EpochState, ReplicaState, GivenPromise, promises_for}
-use Rattle.mk_epoch.specs.GlobalAnswers.{lacks}
+use Rattle.mk_quorum.specs.Sizes.{members}
+use Rattle.mk_words.specs.declared.Phase.{Phase}
+use Rattle.mk_words.specs.declared.Phase.TheVariants.{Serving, Paused, Adopted, Lacking}
+use Rattle.mk_words.specs.Bases.{empty_base}
+use Rattle.mk_model.specs.EpochState.{EpochState, ReplicaState, GivenPromise, promises_for}
+use Rattle.mk_model.specs.GlobalAnswers.{lacks}
 
 -- the replica of this number is in this state
 abbrev pub IsAt : EpochState → ℕ → ReplicaState → Type 0
@@ -54,6 +55,10 @@ PromiseGap state =
     (given : GivenPromise) → Among given state.promises →
     (given.promise.adopted < given.epoch) × EverHad state given.promise.replica given.promise.adopted
     × ((epoch : ℕ) → EverHad state given.promise.replica epoch → (epoch ≤ given.promise.adopted) ⊎ (given.epoch ≤ epoch))
+
+-- who gave a promise is one of the replicas
+abbrev pub PromisersAreThere : EpochState → Type 0
+PromisersAreThere state = (given : GivenPromise) → Among given state.promises → given.promise.replica < members state.faults
 
 -- a replica gives one promise for an epoch at most
 abbrev pub OnePromiseEach : EpochState → Type 0

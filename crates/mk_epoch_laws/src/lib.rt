@@ -4,13 +4,10 @@
 //! replicas hand in with their promises. The functions do nothing: what they promise is the law.
 #![tactic(auto)]
 
-#[cfg(test)]
-mod tests;
-
 ghost use Rattle.mk_epoch_laws.specs.Turns.{Always, AlwaysLater};
-ghost use Rattle.mk_epoch_laws.specs.WordLaws.{WordsBound, WordsRise, PhaseAndWord, AdoptedOnTop, AdoptsOnce, PromiseGap, OnePromiseEach};
-ghost use Rattle.mk_epoch_laws.specs.BaseLaws.{BasesMade, BasesStay, BasesHeld, ServingWasEntered, EnteredWasHeld, ResetForGood};
-ghost use Rattle.mk_epoch_laws.specs.FitLaws.{FirstIsReached, NextIsReached, PromisesAreFit, HandedInIsCoherent};
+ghost use Rattle.mk_epoch_laws.specs.WordLaws.{WordsBound, WordsRise, PhaseAndWord, AdoptedOnTop, AdoptsOnce, PromiseGap, OnePromiseEach, PromisersAreThere};
+ghost use Rattle.mk_epoch_laws.specs.BaseLaws.{BasesMade, BasesStay, BasesHeld, KeptGrows, CountedAreGiven, ServingWasEntered, EnteredWasHeld, ResetForGood};
+ghost use Rattle.mk_epoch_laws.specs.FitLaws.{BasesListHanded, FirstIsReached, NextIsReached, PromisesAreFit, HandedInIsCoherent};
 ghost use Rattle.mk_epoch_laws.specs.PathLaws.{EpochsInOrder, PathsPass, PathsStay, PathsKeep, HeldStands, ForceInOrder, ForceInLine};
 
 /// Epoch words bound what replicas promised and adopted, and outlive a wipe.
@@ -22,14 +19,19 @@ pub fn words_hold()
     ensures adopts_once { Always AdoptsOnce }
     ensures promise_gap { Always PromiseGap }
     ensures one_promise_each { Always OnePromiseEach }
+    ensures promisers_are_there { Always PromisersAreThere }
     ensures reset_for_good { ResetForGood }
 {}
 
-/// A base is made once, of a majority's promises, on an earlier base; it stays, and what is served was entered.
+/// A base is made once, of a majority's promises, on an earlier base, and lists what they handed in; it stays, and what is
+/// served was entered.
 pub fn bases_hold()
     ensures bases_made { Always BasesMade }
     ensures bases_stay { AlwaysLater BasesStay }
     ensures bases_held { Always BasesHeld }
+    ensures kept_grows { AlwaysLater KeptGrows }
+    ensures counted_are_given { Always CountedAreGiven }
+    ensures bases_list_handed { Always BasesListHanded }
     ensures serving_was_entered { ServingWasEntered }
     ensures entered_was_held { EnteredWasHeld }
 {}

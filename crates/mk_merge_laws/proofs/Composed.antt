@@ -4,7 +4,12 @@ use Rattle.std.specs.Prelude.{filter, flat_map, map, option_map, option_and_then
 use Rattle.std.specs.List.{list_any}
 use Rattle.std.specs.Option.{option_or}
 use Rattle.std.proofs.lemmas.Bool.Decides.{nat_tests}
+use Rattle.std.proofs.lemmas.Bool.{and_parts}
 use Rattle.mk_lists.specs.Among.{Among, Among-append, Among-append_left, Among-append_right}
+use Rattle.mk_lists.proofs.Tests.{Among-from_list_any, list_any-from_Among}
+use Rattle.mk_lists.proofs.Lookups.{find-from_Among, find_tells}
+use Rattle.mk_lists.proofs.Members.{Among-filter, Among-flat_map, Among-from_filter, Among-from_flat_map, Among-from_map, Among-map}
+use Rattle.mk_lists.proofs.Options.{None-from_is_none}
 use Rattle.mk_txn.specs.declared.TxnId.{TxnId}
 use Rattle.mk_txn.specs.declared.Accepted.{Accepted}
 use Rattle.mk_txn.specs.declared.Cause.TheVariants.{Epoch as ByEpoch}
@@ -13,18 +18,17 @@ use Rattle.mk_txn.specs.declared.Outcome.TheVariants.{Commit, Abort}
 use Rattle.mk_txn.specs.Clashes.{conflict}
 use Rattle.mk_txn.specs.Outcomes.{is_commit, highest}
 use Rattle.mk_txn.specs.Transactions.{Transaction, same_id}
-use Rattle.mk_txn.proofs.ClashFacts.{member-from_list_any, list_any-from_member}
 use Rattle.mk_txn.proofs.IdOrder.{same_id-tells, same_id-itself}
-use Rattle.mk_record.specs.declared.Entry.{Entry}
-use Rattle.mk_record.specs.Entries.{is_entry_of}
+use Rattle.mk_txn.proofs.OutcomeLaws.{is_commit-tells}
+use Rattle.mk_words.specs.declared.Entry.{Entry}
+use Rattle.mk_words.specs.Entries.{is_entry_of}
 use Rattle.mk_quorum.specs.Sizes.{members, hint_of}
 use Rattle.mk_quorum.specs.Slots.{passes}
-use Rattle.mk_merge.specs.declared.Fated.{Fated}
-use Rattle.mk_merge.specs.Bases.{fate_in, fated}
-use Rattle.mk_merge.specs.Promises.{PromiseState, base_of}
-use Rattle.mk_merge.specs.Merging.{merged_from, fate_by, settled_fate, settled_commits, candidates, taken, reported_txns, reported, reports, first_last, highest_accepted, ok_reports}
+use Rattle.mk_words.specs.declared.Fated.{Fated}
+use Rattle.mk_words.specs.Bases.{fate_in, fated}
+use Rattle.mk_words.specs.Promises.{PromiseState, base_of}
+use Rattle.mk_words.specs.Merging.{merged_from, fate_by, settled_fate, settled_commits, candidates, taken, reported_txns, reported, reports, first_last, highest_accepted, ok_reports}
 use Rattle.mk_merge_laws.specs.Composition.{Report, IsNew, IsUnfinished, IsUnaccepted, IsUnsettled, made_fate, OldFatesStay, FinalFatesStay, AcceptedFatesStay, UnsettledFates, NothingElse, StandsInOrder, RejectedConflict, CandidatesFit}
-use Rattle.mk_merge_laws.proofs.ListLaws.{both_true, find-some, find-there, Among-map, Among-mapped, Among-filter, Among-filtered, Among-flat_map, Among-flat_mapped}
 use Rattle.mk_merge_laws.proofs.Reports.{report_of, reported_at, report_within, first_last-some, first_last-none, highest-some, highest-none, highest-above}
 use Rattle.mk_merge_laws.proofs.Orders.{ascend_ordered, one_of_id, ordered_from, ordered_there, by_stamp_there, by_stamp_from, fated_in_order, fate_there, fate_of_member, fate_given}
 use Rattle.mk_merge_laws.proofs.Taking.{taken_stays, taken_from, taken_or_conflicts, taken_fit}
@@ -45,10 +49,6 @@ fate_of epoch commits id None = cond (list_any (λ c. same_id c.id id) commits) 
 fate_of-number : (epoch : ℕ) (t : Transaction) (commits : List Transaction) (settled : Option Outcome) → fate_by epoch t commits settled ≡ fate_of epoch commits t.id settled
 fate_of-number epoch t commits (Some outcome) = refl
 fate_of-number epoch t commits None = refl
-
-is_commit-tells : (o : Outcome) → is_commit o ≡ true → o ≡ Commit
-is_commit-tells Commit e = refl
-is_commit-tells (Abort cause) e = absurd (cc e)
 
 module _ (f epoch : ℕ) (ps : List PromiseState) where
   -- the fate of a reported transaction goes by its number
@@ -71,7 +71,7 @@ module _ (f epoch : ℕ) (ps : List PromiseState) where
   -- and so does one that was reported
   reported_there : (id : TxnId) → Report ps id → (t : Transaction) × Among t (reported_txns ps) × (same_id t.id id ≡ true)
   reported_there id report =
-      let k = find-some (is_entry_of id) report.promise.entries report.entry report.handed in
+      let k = find_tells (is_entry_of id) report.promise.entries report.entry report.handed in
       ordered_there id report.entry.txn (map (λ x. x.txn) (base_of ps).list ++ flat_map (λ p. map (λ y. y.txn) p.entries) ps)
       (Among-append_right report.entry.txn (map (λ x. x.txn) (base_of ps).list) (flat_map (λ p. map (λ y. y.txn) p.entries) ps)
       (Among-flat_map (λ (p : PromiseState). map (λ (y : Entry). y.txn) p.entries) report.entry.txn report.promise ps report.given
@@ -168,24 +168,20 @@ module _ (f epoch : ℕ) (ps : List PromiseState) where
   -- what is settled of each commit by the first rules
   settled_commit : (c : Transaction) → Among c (settled_commits f ps) → Among c (reported_txns ps) × (settled_fate f ps c.id ≡ Some Commit)
   settled_commit c a =
-      let k = Among-filter (λ (txn : Transaction). passes is_commit (settled_fate f ps txn.id)) c (reported_txns ps) a in
+      let k = Among-from_filter (λ (txn : Transaction). passes is_commit (settled_fate f ps txn.id)) c (reported_txns ps) a in
       (k.0, by (settled_fate f ps c.id) k.1)
     where
       by : (x : Option Outcome) → passes is_commit x ≡ true → x ≡ Some Commit
       by None e = absurd (cc e)
       by (Some o) e = ap Some (is_commit-tells o e)
 
-  is_none-tells : (x : Option Outcome) → is_none x ≡ true → x ≡ None
-  is_none-tells None e = refl
-  is_none-tells (Some o) e = absurd (cc e)
-
   -- a candidate is reported, unsettled and hinted
   candidate_is : (c : Transaction) → Among c (candidates f ps) → Among c (reported_txns ps) × (settled_fate f ps c.id ≡ None) × (hint_of f ≤ ok_reports f ps c.id)
   candidate_is c a =
-      let k = Among-filter (λ (txn : Transaction). is_none (settled_fate f ps txn.id) && nat_le (hint_of f) (ok_reports f ps txn.id)) c (reported_txns ps)
+      let k = Among-from_filter (λ (txn : Transaction). is_none (settled_fate f ps txn.id) && nat_le (hint_of f) (ok_reports f ps txn.id)) c (reported_txns ps)
       (by_stamp_from c (filter (λ txn. is_none (settled_fate f ps txn.id) && nat_le (hint_of f) (ok_reports f ps txn.id)) (reported_txns ps)) a) in
-      let b = both_true (is_none (settled_fate f ps c.id)) (nat_le (hint_of f) (ok_reports f ps c.id)) k.1 in
-      (k.0, is_none-tells (settled_fate f ps c.id) b.0, grind (arith, nat_tests, b.1))
+      let b = and_parts (is_none (settled_fate f ps c.id)) (nat_le (hint_of f) (ok_reports f ps c.id)) k.1 in
+      (k.0, None-from_is_none (settled_fate f ps c.id) b.0, grind (arith, nat_tests, b.1))
 
   pub unsettled : UnsettledFates f epoch ps
   unsettled id u report = by (list_any (λ c. same_id c.id t.0.id) (commits_of f ps)) refl
@@ -203,7 +199,7 @@ module _ (f epoch : ℕ) (ps : List PromiseState) where
           ((made_fate f epoch ps id ≡ Some Commit) × (hint_of f ≤ ok_reports f ps id)) ⊎ (made_fate f epoch ps id ≡ Some (Abort (ByEpoch epoch)))
       by false e = inr (fate ∙ ap (λ (b : Bool). Some (cond b Commit (Abort (ByEpoch epoch)))) e)
       by true e =
-          let c = member-from_list_any (λ (x : Transaction). same_id x.id t.0.id) (commits_of f ps) e in
+          let c = Among-from_list_any (λ (x : Transaction). same_id x.id t.0.id) (commits_of f ps) e in
           let same : c.0.id ≡ id = same_id-tells c.0.id t.0.id c.2 ∙ same_id-tells t.0.id id t.2 in
           inl (
             fate ∙ ap (λ (b : Bool). Some (cond b Commit (Abort (ByEpoch epoch)))) e,
@@ -215,7 +211,7 @@ module _ (f epoch : ℕ) (ps : List PromiseState) where
 
   -- a member of the list is a reported transaction with its fate
   member_is : (x : Fated) → Among x (merged_from f epoch ps).list → (t : Transaction) × Among t (reported_txns ps) × (fated t (fate_for f epoch ps t) ≡ x)
-  member_is x a = Among-mapped (λ (txn : Transaction). fated txn (fate_for f epoch ps txn)) x (reported_txns ps) a
+  member_is x a = Among-from_map (λ (txn : Transaction). fated txn (fate_for f epoch ps txn)) x (reported_txns ps) a
 
   pub nothing_else : NothingElse f epoch ps
   nothing_else id some = by (made_fate f epoch ps id) refl some
@@ -223,13 +219,13 @@ module _ (f epoch : ℕ) (ps : List PromiseState) where
       from : (t : Transaction) → Among t (reported_txns ps) → same_id t.id id ≡ true → (is_some (fate_in id (base_of ps).list) ≡ true) ⊎ Report ps id
       from t a e = elim (Among-append t (map (λ x. x.txn) (base_of ps).list) (flat_map (λ p. map (λ y. y.txn) p.entries) ps) (ordered_from t (map (λ x. x.txn) (base_of ps).list ++ flat_map (λ p. map (λ y. y.txn) p.entries) ps) a)) [
         | inl old ↦
-            let x = Among-mapped (λ (y : Fated). y.txn) t (base_of ps).list old in
+            let x = Among-from_map (λ (y : Fated). y.txn) t (base_of ps).list old in
             let k = fate_of_member id (base_of ps).list x.0 x.1 (subst (λ (y : Transaction). same_id y.id id ≡ true) (sym x.2) e) in
             inl (ap is_some k.1)
         | inr new ↦
-            let p = Among-flat_mapped (λ (q : PromiseState). map (λ (y : Entry). y.txn) q.entries) t ps new in
-            let y = Among-mapped (λ (z : Entry). z.txn) t p.0.entries p.2 in
-            let k = find-there (is_entry_of id) p.0.entries y.0 y.1 (subst (λ (z : Transaction). same_id z.id id ≡ true) (sym y.2) e) in
+            let p = Among-from_flat_map (λ (q : PromiseState). map (λ (y : Entry). y.txn) q.entries) t ps new in
+            let y = Among-from_map (λ (z : Entry). z.txn) t p.0.entries p.2 in
+            let k = find-from_Among (is_entry_of id) p.0.entries y.0 y.1 (subst (λ (z : Transaction). same_id z.id id ≡ true) (sym y.2) e) in
             inr (record { promise = p.0; entry = k.0; given = p.1; handed = k.1 })
       ]
 
@@ -249,7 +245,7 @@ module _ (f epoch : ℕ) (ps : List PromiseState) where
     | inl settled ↦ let k = settled_commit c settled in stands k.0 (ap (fate_by epoch c (commits_of f ps)) k.1)
     | inr candidate ↦
         let k = candidate_is c candidate in
-        let there = list_any-from_member (λ (x : Transaction). same_id x.id c.id) (commits_of f ps) c a (same_id-itself c.id) in
+        let there = list_any-from_Among (λ (x : Transaction). same_id x.id c.id) (commits_of f ps) c a (same_id-itself c.id) in
         stands k.0 (ap (fate_by epoch c (commits_of f ps)) k.1 ∙ ap (λ (b : Bool). cond b Commit (Abort (ByEpoch epoch))) there)
   ]
     where
@@ -264,14 +260,14 @@ module _ (f epoch : ℕ) (ps : List PromiseState) where
       by (Some o) k =
           let commits : Commit ≡ o = sym e ∙ ap (fate_by epoch t (commits_of f ps)) k in
           taken_stays t (settled_commits f ps) (candidates f ps)
-          (Among-filtered (λ (txn : Transaction). passes is_commit (settled_fate f ps txn.id)) t (reported_txns ps) a (ap (passes is_commit) k ∙ ap is_commit (sym commits)))
+          (Among-filter (λ (txn : Transaction). passes is_commit (settled_fate f ps txn.id)) t (reported_txns ps) a (ap (passes is_commit) k ∙ ap is_commit (sym commits)))
       by None k = taken_by (list_any (λ c. same_id c.id t.id) (commits_of f ps)) refl
         where
           taken_by : (b : Bool) → list_any (λ c. same_id c.id t.id) (commits_of f ps) ≡ b → Among t (commits_of f ps)
           taken_by false n =
               absurd (cc (sym e ∙ ap (fate_by epoch t (commits_of f ps)) k ∙ ap (λ (b : Bool). cond b Commit (Abort (ByEpoch epoch))) n))
           taken_by true n =
-              let c = member-from_list_any (λ (x : Transaction). same_id x.id t.id) (commits_of f ps) n in
+              let c = Among-from_list_any (λ (x : Transaction). same_id x.id t.id) (commits_of f ps) n in
               let reported_c : Among c.0 (reported_txns ps) = elim (taken_from c.0 (settled_commits f ps) (candidates f ps) c.1) [
                 | inl settled ↦ (settled_commit c.0 settled).0
                 | inr candidate ↦ (candidate_is c.0 candidate).0
@@ -282,7 +278,7 @@ module _ (f epoch : ℕ) (ps : List PromiseState) where
   pub rejected_conflict : RejectedConflict f epoch ps
   rejected_conflict x cause a candidate aborts = elim (taken_or_conflicts t.0 (settled_commits f ps) (candidates f ps) is_candidate) [
     | inl was_taken ↦
-        let there = list_any-from_member (λ (c : Transaction). same_id c.id t.0.id) (commits_of f ps) t.0 was_taken (same_id-itself t.0.id) in
+        let there = list_any-from_Among (λ (c : Transaction). same_id c.id t.0.id) (commits_of f ps) t.0 was_taken (same_id-itself t.0.id) in
         let commits : fate_for f epoch ps t.0 ≡ Commit = ap (fate_by epoch t.0 (commits_of f ps)) none ∙ ap (λ (b : Bool). cond b Commit (Abort (ByEpoch epoch))) there in
         absurd (cc (sym commits ∙ ap (λ (y : Fated). y.outcome) t.2 ∙ aborts))
     | inr k ↦ (fated k.0 Commit, commit_stands k.0 k.1, refl, subst (λ (y : Fated). conflict y.txn k.0 ≡ true) t.2 k.2)
@@ -303,7 +299,7 @@ module _ (f epoch : ℕ) (ps : List PromiseState) where
       is_candidate : Among t.0 (candidates f ps)
       is_candidate =
           by_stamp_there t.0 (filter (λ txn. is_none (settled_fate f ps txn.id) && nat_le (hint_of f) (ok_reports f ps txn.id)) (reported_txns ps))
-          (Among-filtered (λ (txn : Transaction). is_none (settled_fate f ps txn.id) && nat_le (hint_of f) (ok_reports f ps txn.id)) t.0 (reported_txns ps) t.1
+          (Among-filter (λ (txn : Transaction). is_none (settled_fate f ps txn.id) && nat_le (hint_of f) (ok_reports f ps txn.id)) t.0 (reported_txns ps) t.1
           (ap (λ (o : Option Outcome). is_none o && nat_le (hint_of f) (ok_reports f ps t.0.id)) none ∙ hinted))
 
   pub candidates_fit : CandidatesFit f epoch ps

@@ -1,5 +1,12 @@
-pub mod ListLaws
 pub mod Reports
 pub mod Orders
 pub mod Taking
 pub mod Composed
+pub mod Members
+pub mod Counting
+pub mod Fitting
+pub mod Adding
+pub mod Lefts
+pub mod BaseWith
+pub mod Bare
+pub mod MergeCases

@@ -7,8 +7,8 @@ use Rattle.mk_txn.specs.declared.Outcome.{Outcome}
 use Rattle.mk_txn.specs.Stamps.{is_before}
 use Rattle.mk_txn.specs.Transactions.{Transaction, same_id, id_before}
 use Rattle.mk_txn.proofs.IdOrder.{id_before-itself, id_before-through, id-from_neither, same_id-tells, same_id-itself}
-use Rattle.mk_merge.specs.declared.Fated.{Fated}
-use Rattle.mk_merge.specs.Bases.{IsInIdOrder, fate_in, fated, placed_by_id, in_id_order, placed_by_stamp, in_stamp_order}
+use Rattle.mk_words.specs.declared.Fated.{Fated}
+use Rattle.mk_words.specs.Bases.{IsInIdOrder, fate_in, fated, placed_by_id, in_id_order, placed_by_stamp, in_stamp_order}
 
 -- each number is before all that follow it
 abbrev pub IdsAscend : List Transaction → Type 0

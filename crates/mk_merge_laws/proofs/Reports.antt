@@ -3,19 +3,23 @@ use Rattle.std.proofs.Common.{◌≡◌, ◌⊎◌, ◌<◌, ◌≤◌, ◌+◌,
 use Rattle.std.specs.Prelude.{find, option_and_then, nat_lt, ◌==◌}
 use Rattle.std.specs.Option.{option_or}
 use Rattle.std.proofs.lemmas.Bool.Decides.{nat_tests}
+use Rattle.std.proofs.lemmas.Bool.{eq-eqb, eqb-true}
+use Rattle.std.proofs.lemmas.Option.{same_Some}
 use Rattle.mk_lists.specs.Among.{Among, AllDistinct, Each-among}
+use Rattle.mk_lists.proofs.Lookups.{find_tells}
+use Rattle.mk_lists.proofs.Members.{Among-map}
 use Rattle.mk_txn.specs.declared.TxnId.{TxnId}
 use Rattle.mk_txn.specs.declared.Accepted.{Accepted}
 use Rattle.mk_txn.specs.declared.Outcome.{Outcome}
 use Rattle.mk_txn.specs.Outcomes.{higher, highest, is_ok_vote}
-use Rattle.mk_record.specs.declared.Entry.{Entry}
-use Rattle.mk_record.specs.Entries.{entry_of}
+use Rattle.mk_txn.proofs.OutcomeLaws.{higher-cases}
+use Rattle.mk_words.specs.declared.Entry.{Entry}
+use Rattle.mk_words.specs.Entries.{entry_of}
 use Rattle.mk_quorum.specs.Sizes.{members}
 use Rattle.mk_quorum.specs.Slots.{passes}
-use Rattle.mk_merge.specs.Promises.{PromiseState}
-use Rattle.mk_merge.specs.Merging.{reported, reports_from, first_last}
+use Rattle.mk_words.specs.Promises.{PromiseState}
+use Rattle.mk_words.specs.Merging.{reported, reports_from, first_last}
 use Rattle.mk_merge_laws.specs.Composition.{Report, AreOfReplicas, OkReportsMean}
-use Rattle.mk_merge_laws.proofs.ListLaws.{eqb-tells, eqb-same, some_same, find-some, Among-map}
 
 -- a replica's report, from its slot
 pub report_of : (ps : List PromiseState) (id : TxnId) (r : ℕ) (e : Entry) → reported ps id r ≡ Some e → (report : Report ps id) × (report.promise.replica ≡ r) × (report.entry ≡ e)
@@ -25,8 +29,8 @@ report_of ps id r e is = by (find (λ p. p.replica == r) ps) refl is
         (report : Report ps id) × (report.promise.replica ≡ r) × (report.entry ≡ e)
     by None found is = absurd (cc is)
     by (Some p) found is =
-        let k = find-some (λ (q : PromiseState). q.replica == r) ps p found in
-        (record { promise = p; entry = e; given = k.0; handed = is }, eqb-tells p.replica r k.1, refl)
+        let k = find_tells (λ (q : PromiseState). q.replica == r) ps p found in
+        (record { promise = p; entry = e; given = k.0; handed = is }, eqb-true p.replica r k.1, refl)
 
 found_among : (ps : List PromiseState) (p : PromiseState) → AllDistinct (map (λ (q : PromiseState). q.replica) ps) → Among p ps → find (λ q. q.replica == p.replica) ps ≡ Some p
 found_among [] p d a = absurd a
@@ -35,8 +39,8 @@ found_among (q ∷ ps) p d a = by (found_among ps p d.1) (q.replica == p.replica
     by : (Among p ps → find (λ q. q.replica == p.replica) ps ≡ Some p) → (b : Bool) → (q.replica == p.replica) ≡ b → Among p (q ∷ ps) → cond b (Some q) (find (λ q. q.replica == p.replica) ps) ≡ Some p
     by again true e (inl same) = ap Some same
     by again true e (inr b) =
-        absurd (d.0 (subst (λ (n : ℕ). Among n (map (λ (x : PromiseState). x.replica) ps)) (sym (eqb-tells q.replica p.replica e)) (Among-map (λ (x : PromiseState). x.replica) p ps b)))
-    by again false e (inl same) = absurd (cc (sym e ∙ eqb-same q.replica p.replica (ap (λ (x : PromiseState). x.replica) same)))
+        absurd (d.0 (subst (λ (n : ℕ). Among n (map (λ (x : PromiseState). x.replica) ps)) (sym (eqb-true q.replica p.replica e)) (Among-map (λ (x : PromiseState). x.replica) p ps b)))
+    by again false e (inl same) = absurd (cc (sym e ∙ eq-eqb q.replica p.replica (ap (λ (x : PromiseState). x.replica) same)))
     by again false e (inr b) = again b
 
 -- a report stands in its replica's slot
@@ -77,7 +81,7 @@ first_last-none ps id r (suc n) is k low high e at = by (λ rest lower. first_la
         option_or l (first_last (reports_from ps id (r + 1) n)) ≡ None → e.last ≡ None
     last_of y (Some p) q here again is = absurd (cc is)
     last_of y None q here again is = here_or_later (Some y) here again is
-        (λ same. ap (λ (x : Entry). x.last) (some_same e y (sym at ∙ ap (reported ps id) same ∙ here)) ∙ q)
+        (λ same. ap (λ (x : Entry). x.last) (same_Some e y (sym at ∙ ap (reported ps id) same ∙ here)) ∙ q)
 
     by : (first_last (reports_from ps id (r + 1) n) ≡ None → r + 1 ≤ k → e.last ≡ None) → (x : Option Entry) → reported ps id r ≡ x →
         option_or (option_and_then (λ y. y.last) x) (first_last (reports_from ps id (r + 1) n)) ≡ None → e.last ≡ None
@@ -87,28 +91,18 @@ first_last-none ps id r (suc n) is k low high e at = by (λ rest lower. first_la
 abbrev accepted_from : List PromiseState → TxnId → ℕ → ℕ → List (Option Accepted)
 accepted_from ps id r n = map (λ report. option_and_then (λ e. e.accepted) report) (reports_from ps id r n)
 
--- the highest of two is one of them, and not below either
-higher-either : (a b : Option Accepted) (c : Accepted) → higher a b ≡ Some c → (a ≡ Some c) ⊎ (b ≡ Some c)
-higher-either None b c is = inr is
-higher-either (Some a) None c is = inl is
-higher-either (Some a) (Some b) c is = by (nat_lt a.view b.view) is
-  where
-    by : (t : Bool) → cond t (Some b) (Some a) ≡ Some c → (Some a ≡ Some c) ⊎ (Some b ≡ Some c)
-    by true is = inr is
-    by false is = inl is
-
 higher-above : (a b : Option Accepted) (c d : Accepted) → higher a b ≡ Some c → (a ≡ Some d) ⊎ (b ≡ Some d) → d.view ≤ c.view
 higher-above None b c d is (inl none) = absurd (cc none)
-higher-above None b c d is (inr at) = let same = ap (λ (x : Accepted). x.view) (some_same d c (sym at ∙ is)) in omega (arith, same)
-higher-above (Some a) None c d is (inl at) = let same = ap (λ (x : Accepted). x.view) (some_same d c (sym at ∙ is)) in omega (arith, same)
+higher-above None b c d is (inr at) = let same = ap (λ (x : Accepted). x.view) (same_Some d c (sym at ∙ is)) in omega (arith, same)
+higher-above (Some a) None c d is (inl at) = let same = ap (λ (x : Accepted). x.view) (same_Some d c (sym at ∙ is)) in omega (arith, same)
 higher-above (Some a) None c d is (inr none) = absurd (cc none)
-higher-above (Some a) (Some b) c d is at = by (nat_lt a.view b.view) refl is (elim at [ inl x ↦ inl (some_same a d x) | inr x ↦ inr (some_same b d x) ])
+higher-above (Some a) (Some b) c d is at = by (nat_lt a.view b.view) refl is (elim at [ inl x ↦ inl (same_Some a d x) | inr x ↦ inr (same_Some b d x) ])
   where
     by : (t : Bool) → nat_lt a.view b.view ≡ t → cond t (Some b) (Some a) ≡ Some c → (a ≡ d) ⊎ (b ≡ d) → d.view ≤ c.view
-    by true k is (inl x) = let p = ap (λ (y : Accepted). y.view) x in let q = ap (λ (y : Accepted). y.view) (some_same b c is) in grind (arith, nat_tests, k, p, q)
-    by true k is (inr x) = let p = ap (λ (y : Accepted). y.view) x in let q = ap (λ (y : Accepted). y.view) (some_same b c is) in omega (arith, p, q)
-    by false k is (inl x) = let p = ap (λ (y : Accepted). y.view) x in let q = ap (λ (y : Accepted). y.view) (some_same a c is) in omega (arith, p, q)
-    by false k is (inr x) = let p = ap (λ (y : Accepted). y.view) x in let q = ap (λ (y : Accepted). y.view) (some_same a c is) in grind (arith, nat_tests, k, p, q)
+    by true k is (inl x) = let p = ap (λ (y : Accepted). y.view) x in let q = ap (λ (y : Accepted). y.view) (same_Some b c is) in grind (arith, nat_tests, k, p, q)
+    by true k is (inr x) = let p = ap (λ (y : Accepted). y.view) x in let q = ap (λ (y : Accepted). y.view) (same_Some b c is) in omega (arith, p, q)
+    by false k is (inl x) = let p = ap (λ (y : Accepted). y.view) x in let q = ap (λ (y : Accepted). y.view) (same_Some a c is) in omega (arith, p, q)
+    by false k is (inr x) = let p = ap (λ (y : Accepted). y.view) x in let q = ap (λ (y : Accepted). y.view) (same_Some a c is) in grind (arith, nat_tests, k, p, q)
 
 higher-none : (a b : Option Accepted) → higher a b ≡ None → (a ≡ None) × (b ≡ None)
 higher-none None b is = (refl, is)
@@ -129,7 +123,7 @@ accepted_of ps id k a is = by (reported ps id k) refl is
 -- the highest accepted outcome is a replica's
 pub highest-some : (ps : List PromiseState) (id : TxnId) (r n : ℕ) (a : Accepted) → highest (accepted_from ps id r n) ≡ Some a → (k : ℕ) × (e : Entry) × (reported ps id k ≡ Some e) × (e.accepted ≡ Some a)
 highest-some ps id r zero a is = absurd (cc is)
-highest-some ps id r (suc n) a is = elim (higher-either (option_and_then (λ (e : Entry). e.accepted) (reported ps id r)) (highest (accepted_from ps id (r + 1) n)) a is) [
+highest-some ps id r (suc n) a is = elim (higher-cases (option_and_then (λ (e : Entry). e.accepted) (reported ps id r)) (highest (accepted_from ps id (r + 1) n)) a is) [
   | inl here ↦ let k = accepted_of ps id r a here in (r, k.0, k.1, k.2)
   | inr later ↦ highest-some ps id (r + 1) n a later
 ]

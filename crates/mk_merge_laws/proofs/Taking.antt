@@ -1,21 +1,16 @@
 -- Candidates taken in turn: who is taken conflicts with no commit, and who is not conflicts with one.
-use Rattle.std.proofs.Common.{◌≡◌, ◌⊎◌, Bool, true, false, refl, inl, inr, sym, ◌∙◌, List, [], ◌∷◌, ◌++◌, subst, cond, ◌||◌}
+use Rattle.std.proofs.Common.{◌≡◌, ◌⊎◌, Bool, true, false, refl, inl, inr, sym, ◌∙◌, List, [], ◌∷◌, ◌++◌, subst, cond}
 use Rattle.std.specs.List.{list_any}
+use Rattle.std.proofs.Math.Bool.{or_comm}
 use Rattle.mk_lists.specs.Among.{Among, Among-append, Among-append_left, Among-append_right}
+use Rattle.mk_lists.proofs.Tests.{Among-from_list_any, list_any-from_Among}
 use Rattle.mk_txn.specs.Clashes.{conflict, clashes}
 use Rattle.mk_txn.specs.Transactions.{Transaction}
-use Rattle.mk_txn.proofs.ClashFacts.{member-from_list_any, list_any-from_member}
-use Rattle.mk_merge.specs.Merging.{taken}
+use Rattle.mk_words.specs.Merging.{taken}
 use Rattle.mk_merge_laws.specs.Composition.{ConflictIsMutual}
 
-or_mutual : (a b : Bool) → (a || b) ≡ (b || a)
-or_mutual true true = refl
-or_mutual true false = refl
-or_mutual false true = refl
-or_mutual false false = refl
-
 pub conflict_is_mutual : ConflictIsMutual
-conflict_is_mutual a b = or_mutual (clashes a b) (clashes b a)
+conflict_is_mutual a b = or_comm (clashes a b) (clashes b a)
 
 -- what was taken so far stays
 pub taken_stays : (t : Transaction) (commits candidates : List Transaction) → Among t commits → Among t (taken commits candidates)
@@ -48,7 +43,7 @@ taken_or_conflicts t commits (txn ∷ rest) a = by (λ xs. taken_or_conflicts t 
     by : ((xs : List Transaction) → Among t rest → Among t (taken xs rest) ⊎ ((c : Transaction) × Among c (taken xs rest) × (conflict t c ≡ true))) → (b : Bool) → list_any (conflict txn) commits ≡ b → Among t (txn ∷ rest) →
         Among t (taken (cond b commits (commits ++ txn ∷ [])) rest) ⊎ ((c : Transaction) × Among c (taken (cond b commits (commits ++ txn ∷ [])) rest) × (conflict t c ≡ true))
     by again true e (inl same) =
-        let c = member-from_list_any (conflict txn) commits e in
+        let c = Among-from_list_any (conflict txn) commits e in
         inr (c.0, taken_stays c.0 commits rest c.1, subst (λ (x : Transaction). conflict x c.0 ≡ true) same c.2)
     by again false e (inl same) = inl (taken_stays t (commits ++ txn ∷ []) rest (Among-append_right t commits (txn ∷ []) (inl same)))
     by again true e (inr b) = again commits b
@@ -63,7 +58,7 @@ none_conflicts p commits e u a = by (p u) refl
   where
     by : (b : Bool) → p u ≡ b → b ≡ false
     by false k = refl
-    by true k = absurd (cc (sym e ∙ list_any-from_member p commits u a k))
+    by true k = absurd (cc (sym e ∙ list_any-from_Among p commits u a k))
 
 fit_more : (R : Transaction → Type 0) (txn : Transaction) (commits : List Transaction) → Fit R commits → list_any (conflict txn) commits ≡ false → Fit R (commits ++ txn ∷ [])
 fit_more R txn commits fit e t u a b r apart = by (Among-append t commits (txn ∷ []) a) (Among-append u commits (txn ∷ []) b)

@@ -11,14 +11,14 @@ use Rattle.mk_txn.specs.declared.Outcome.TheVariants.{Commit, Abort}
 use Rattle.mk_txn.specs.Clashes.{conflict}
 use Rattle.mk_txn.specs.Outcomes.{is_ok_vote}
 use Rattle.mk_txn.specs.Transactions.{Transaction}
-use Rattle.mk_record.specs.declared.Entry.{Entry}
-use Rattle.mk_record.specs.Entries.{entry_of}
+use Rattle.mk_words.specs.declared.Entry.{Entry}
+use Rattle.mk_words.specs.Entries.{entry_of}
 use Rattle.mk_quorum.specs.Sizes.{members, hint_of}
 use Rattle.mk_quorum.specs.Slots.{passes}
-use Rattle.mk_merge.specs.declared.Fated.{Fated}
-use Rattle.mk_merge.specs.Bases.{IsInIdOrder, fate_in}
-use Rattle.mk_merge.specs.Promises.{PromiseState, base_of}
-use Rattle.mk_merge.specs.Merging.{merged_from, ok_reports, reported}
+use Rattle.mk_words.specs.declared.Fated.{Fated}
+use Rattle.mk_words.specs.Bases.{IsInIdOrder, fate_in}
+use Rattle.mk_words.specs.Promises.{PromiseState, base_of}
+use Rattle.mk_words.specs.Merging.{merged_from, ok_reports, reported}
 
 -- the promises are of different replicas, each with a number below that of all
 pub record AreOfReplicas (f : ℕ) (promises : List PromiseState) : Type 0 where

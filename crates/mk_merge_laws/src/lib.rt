@@ -6,7 +6,7 @@
 
 ghost use Rattle.mk_merge_laws.specs.Composition.{OldFatesStay, FinalFatesStay, AcceptedFatesStay, UnsettledFates, NothingElse, StandsInOrder, RejectedConflict, CandidatesFit, OkReportsMean, ConflictIsMutual};
 ghost use Rattle.std.specs.Prelude.{ℕ, List};
-ghost use Rattle.mk_merge.specs.Promises.{PromiseState};
+ghost use Rattle.mk_words.specs.Promises.{PromiseState};
 
 /// Where the outcome of each attempt in a base comes from.
 pub fn fates_are_composed()

@@ -1,22 +1,27 @@
 -- How a replica comes by an epoch that it never had: by its adoption alone. A base that was made stays.
 use Rattle.std.proofs.Common.{◌≡◌, ◌⊎◌, ℕ, Bool, true, false, refl, arith, inl, inr, sym, ap, ◌∙◌, List, [], ◌∷◌, Option, Some, None, subst, cond}
 use Rattle.std.specs.Prelude.{slice_get, slice_set, find, option_map, is_some, not, ◌++◌, ◌==◌}
-use Rattle.mk_merge.specs.Bases.{BaseState}
-use Rattle.mk_merge.specs.declared.Phase.{Phase}
-use Rattle.mk_merge.specs.declared.Phase.TheVariants.{Serving, Paused, Adopted, Lacking}
-use Rattle.mk_global.specs.declared.GlobalEntry.{GlobalEntry}
-use Rattle.mk_global.specs.declared.GlobalLine.{GlobalLine}
-use Rattle.mk_global.specs.declared.GlobalLine.TheVariants.{Wipe, Ask, Promise, Merge, Adopt, Enter}
-use Rattle.mk_global.specs.declared.GlobalAnswer.TheVariants.{Ok as Done, Unmade, Old}
-use Rattle.mk_merge.specs.Merging.{merged}
-use Rattle.mk_epoch.specs.EpochState.{EpochState, ReplicaState, MadeBase, made_for, promises_for}
-use Rattle.mk_epoch.specs.GlobalAnswers.{global_answer, promise_answer, adopt_answer, is_too_old, lacks, is_accepted}
-use Rattle.mk_epoch.specs.GlobalSteps.{HandedIn, global_after, change_replica, wiped, promised, with_promise, with_base, adopting, base_or_empty, serving, is_adopted, with_adoption, awaits_enter}
-use Rattle.mk_merge_laws.proofs.ListLaws.{same_or_not, both_true, slice_get-set_same, slice_get-set_other, slice_get-change, slice_get-changed, some_same, find-append_some}
+use Rattle.std.proofs.lemmas.Bool.{and_parts, cases_eq}
+use Rattle.std.proofs.lemmas.Option.{same_Some, slice_get_within}
+use Rattle.mk_lists.proofs.Places.{slice_get-set_other, slice_get-set_same}
+use Rattle.mk_lists.proofs.Changes.{slice_get-change, slice_get-from_change}
+use Rattle.mk_lists.proofs.Lookups.{find-append_some}
+use Rattle.mk_epoch_laws.proofs.LineNews.{promise_done}
+use Rattle.mk_words.specs.Bases.{BaseState}
+use Rattle.mk_words.specs.declared.Phase.{Phase}
+use Rattle.mk_words.specs.declared.Phase.TheVariants.{Serving, Paused, Adopted, Lacking}
+use Rattle.mk_words.specs.declared.GlobalEntry.{GlobalEntry}
+use Rattle.mk_words.specs.declared.GlobalLine.{GlobalLine}
+use Rattle.mk_words.specs.declared.GlobalLine.TheVariants.{Wipe, Ask, Promise, Merge, Adopt, Enter}
+use Rattle.mk_words.specs.declared.GlobalAnswer.TheVariants.{Ok as Done, Unmade, Old}
+use Rattle.mk_words.specs.Merging.{merged}
+use Rattle.mk_model.specs.EpochState.{EpochState, ReplicaState, MadeBase, made_for, promises_for}
+use Rattle.mk_model.specs.GlobalAnswers.{global_answer, promise_answer, adopt_answer, is_too_old, lacks, is_accepted}
+use Rattle.mk_model.specs.GlobalSteps.{HandedIn, global_after, change_replica, wiped, promised, with_promise, with_base, adopting, base_or_empty, serving, is_adopted, with_adoption, awaits_enter}
 use Rattle.mk_history.specs.declared.RoundLog.{RoundLog}
 use Rattle.mk_history.specs.Histories.{History}
 use Rattle.mk_history.specs.Wholes.{WholeState, after_logs, after_global, globals_through, after_round, state_through, handed_in}
-use Rattle.mk_run_laws.proofs.Standing.{At, HasIt, at_set, promise_may}
+use Rattle.mk_run_laws.proofs.Standing.{At, HasIt, at_set}
 
 -- the replica does not have the epoch
 abbrev pub NotIt : ℕ → ReplicaState → Type 0
@@ -37,7 +42,7 @@ entered_not e epoch x z (inr k) h = subst (NotIt e) k.1 (by h)
     waits Lacking a l = cc a
 
     by : NotIt e x → NotIt e (serving x)
-    by (inl lost) = absurd (waits x.phase (both_true (is_adopted x.phase) (x.adopted == epoch) k.0).0 lost)
+    by (inl lost) = absurd (waits x.phase (and_parts (is_adopted x.phase) (x.adopted == epoch) k.0).0 lost)
     by (inr apart) = inr apart
 
 adopt_made : (state : EpochState) (epoch : ℕ) (x : ReplicaState) → is_accepted (adopt_answer state epoch (Some x)) ≡ true → (base : BaseState) × (made_for epoch state ≡ Some base)
@@ -61,13 +66,13 @@ module _ (state : EpochState) (handed : HandedIn) (e r : ℕ) where
       by : (o : Option ReplicaState) → slice_get state.replicas q ≡ o → is_accepted (adopt_answer state epoch o) ≡ true →
           Born state (Adopt epoch q) e r (with_adoption epoch q (change_replica q (adopting epoch (base_or_empty (made_for epoch state))) o state)).replicas
       by None at is = absurd (cc is)
-      by (Some x) at is = elim (same_or_not epoch e) [
+      by (Some x) at is = elim (cases_eq epoch e) [
         | inr apart ↦ inl (at_set (NotIt e) (NotIt e) state.replicas q x taken at r (λ _ _. inr apart) (λ _ z k. k) h)
-        | inl same ↦ elim (same_or_not r q) [
+        | inl same ↦ elim (cases_eq r q) [
           | inl here ↦ inr (
             (λ i. Adopt (same i) (sym here i)),
             subst (λ (n : ℕ). (base : BaseState) × (made_for n state ≡ Some base)) same (adopt_made state epoch x is),
-            (taken, ap (slice_get (slice_set state.replicas q taken)) here ∙ slice_get-set_same state.replicas q x taken at, (omega (arith, same), refl, same)),
+            (taken, ap (slice_get (slice_set state.replicas q taken)) here ∙ slice_get-set_same state.replicas q taken (slice_get_within state.replicas q x at), (omega (arith, same), refl, same)),
           )
           | inr other ↦ inl (h.0, slice_get-set_other state.replicas q r taken other ∙ h.1, h.2)
         ]
@@ -83,7 +88,7 @@ module _ (state : EpochState) (handed : HandedIn) (e r : ℕ) where
       by (Some x) at is = inl (at_set (NotIt e) (NotIt e) state.replicas q x (promised epoch x) at r (λ _ k. kept k) (λ _ z k. k) h)
         where
           kept : NotIt e x → NotIt e (promised epoch x)
-          kept (inl lost) = absurd (cc (sym (promise_may state epoch x is).0 ∙ lost))
+          kept (inl lost) = absurd (cc (sym (promise_done state epoch x is).0 ∙ lost))
           kept (inr apart) = inr apart
   line_born (Ask epoch) is h = inl h
   line_born (Merge epoch) is h = by (made_for epoch state)
@@ -92,9 +97,9 @@ module _ (state : EpochState) (handed : HandedIn) (e r : ℕ) where
       by None = inl h
       by (Some base) = inl h
   line_born (Enter epoch) is (x, at, h) =
-      let t = slice_get-changed (awaits_enter epoch) serving state.replicas r x at in
-      let k = slice_get-change (awaits_enter epoch) serving state.replicas r t.0 t.1 in
-      let old = subst (NotIt e) (some_same x k.0 (sym at ∙ k.1)) h in
+      let t = slice_get-change (awaits_enter epoch) serving state.replicas r x at in
+      let k = slice_get-from_change (awaits_enter epoch) serving state.replicas r t.0 t.1 in
+      let old = subst (NotIt e) (same_Some x k.0 (sym at ∙ k.1)) h in
       inl (t.0, t.1, entered_not e epoch k.0 t.0 k.2 old)
 
 -- ---- bases stay

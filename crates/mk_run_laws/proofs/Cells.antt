@@ -1,35 +1,25 @@
 -- The cells of a replica over a round: its journals, and lines that empty replicas.
-use Rattle.std.proofs.Common.{◌≡◌, ◌⊎◌, ◌<◌, ℕ, zero, suc, ◌+◌, Bool, true, false, refl, arith, sym, ap, ◌∙◌, inl, inr, List, [], ◌∷◌, ◌++◌, Some, replicate, length}
+use Rattle.std.proofs.Common.{◌≡◌, ◌⊎◌, ◌<◌, ℕ, zero, suc, ◌+◌, Bool, true, false, refl, arith, sym, ap, ◌∙◌, inl, inr, List, [], ◌∷◌, Some, replicate, length}
 use Rattle.std.specs.Prelude.{slice_get, slice_set, slice_index_or, option_map}
-use Rattle.std.proofs.lemmas.Option.{slice_get-map}
-use Rattle.mk_cell.specs.declared.JournalEntry.{JournalEntry}
-use Rattle.mk_cell.specs.Cells.{CellState, first_cell, cell_after}
-use Rattle.mk_cell.specs.Journals.{cell_through, EachAnswered}
+use Rattle.std.proofs.lemmas.Option.{slice_get-map, get_or_from_slice_get, same_Some, slice_get_within}
+use Rattle.std.proofs.lemmas.Bool.{cases_eq, eq-eqb}
+use Rattle.mk_lists.proofs.Places.{slice_get-replicate, slice_get-set_other, slice_get-set_same}
+use Rattle.mk_words.specs.Cells.{CellState, first_cell}
+use Rattle.mk_words.specs.Journals.{cell_through}
 use Rattle.mk_quorum.specs.Sizes.{members}
-use Rattle.mk_merge.specs.Bases.{BaseState, empty_base}
-use Rattle.mk_merge.specs.Rebuilding.{rebuilt}
-use Rattle.mk_global.specs.declared.GlobalLine.{GlobalLine}
-use Rattle.mk_global.specs.declared.GlobalLine.TheVariants.{Wipe, Ask, Promise, Merge, Adopt, Enter}
-use Rattle.mk_column.specs.ColumnState.{numbers_from}
-use Rattle.mk_epoch.specs.EpochState.{made_for}
-use Rattle.mk_epoch.specs.GlobalSteps.{base_or_empty}
-use Rattle.mk_merge_laws.proofs.ListLaws.{same_or_not, eqb-same, slice_get-set_same, slice_get-set_other, some_same}
+use Rattle.mk_words.specs.Bases.{BaseState, empty_base}
+use Rattle.mk_words.specs.Rebuilding.{rebuilt}
+use Rattle.mk_words.specs.declared.GlobalLine.{GlobalLine}
+use Rattle.mk_words.specs.declared.GlobalLine.TheVariants.{Wipe, Ask, Promise, Merge, Adopt, Enter}
+use Rattle.mk_model.specs.ColumnState.{numbers_from}
+use Rattle.mk_model.specs.EpochState.{made_for}
+use Rattle.mk_model.specs.GlobalSteps.{base_or_empty}
 use Rattle.mk_column_laws.specs.Moments.{has_number}
 use Rattle.mk_history.specs.declared.RoundLog.{RoundLog}
 use Rattle.mk_history.specs.Histories.{History, journal_of}
 use Rattle.mk_history.specs.Wholes.{WholeState, first_state, cell_of, keys_after_journals, cells_after_journals, after_logs, after_line, restarted, rebuilt_cells}
 use Rattle.mk_run_laws.specs.RunEvents.{emptied_by}
-use Rattle.mk_run_laws.proofs.Joined.{slice_index_or-get, slice_get-numbers}
-
--- ---- journals
-
-pub cell_through-append : (cell : CellState) (one other : List JournalEntry) → cell_through cell (one ++ other) ≡ cell_through (cell_through cell one) other
-cell_through-append cell [] other = refl
-cell_through-append cell (entry ∷ one) other = cell_through-append (cell_after cell entry.act) one other
-
-pub answered-join : (cell : CellState) (one other : List JournalEntry) → EachAnswered cell one → EachAnswered (cell_through cell one) other → EachAnswered cell (one ++ other)
-answered-join cell [] other h k = k
-answered-join cell (entry ∷ one) other h k = (h.0, answered-join (cell_after cell entry.act) one other h.1 k)
+use Rattle.mk_run_laws.proofs.Joined.{slice_get-numbers}
 
 -- ---- the cell of a key
 
@@ -39,12 +29,7 @@ HasCell state r key cell = (row : List CellState) × (slice_get state.cells r �
 
 pub has_cell : (state : WholeState) (r key : ℕ) (cell : CellState) → HasCell state r key cell → cell_of state r key ≡ cell
 has_cell state r key cell (row, at, is) =
-    ap (λ (keys : List CellState). slice_index_or keys key first_cell) (slice_index_or-get state.cells r row [] at) ∙ slice_index_or-get row key cell first_cell is
-
-pub slice_get-replicate : {X : Type 0} (n k : ℕ) (x : X) → k < n → slice_get (replicate n x) k ≡ Some x
-slice_get-replicate zero k x lt = absurd (omega (arith, lt))
-slice_get-replicate (suc n) zero x lt = refl
-slice_get-replicate (suc n) (suc k) x lt = slice_get-replicate n k x (omega (arith, lt))
+    ap (λ (keys : List CellState). slice_index_or keys key first_cell) (get_or_from_slice_get state.cells r row [] at) ∙ get_or_from_slice_get row key cell first_cell is
 
 pub cell_first : (run : History) (r key : ℕ) → r < members run.faults → key < length run.key_names → HasCell (first_state run) r key first_cell
 cell_first run r key rlt klt =
@@ -55,7 +40,7 @@ keys_after-get : (round : RoundLog) (r n : ℕ) (row : List CellState) (key : �
     slice_get (keys_after_journals round r n row) key ≡ Some (cell_through cell (journal_of round r (n + key)))
 keys_after-get round r n [] key cell e = absurd (cc e)
 keys_after-get round r n (x ∷ row) zero cell e =
-    let same = some_same x cell e in
+    let same = same_Some x cell e in
     let place : n ≡ n + 0 = omega arith in
     ap (λ (y : CellState). Some (cell_through y (journal_of round r n))) same ∙ ap (λ (k : ℕ). Some (cell_through cell (journal_of round r k))) place
 keys_after-get round r n (x ∷ row) (suc key) cell e =
@@ -66,7 +51,7 @@ cells_after-get : (round : RoundLog) (n : ℕ) (cells : List (List CellState)) (
     slice_get (cells_after_journals round n cells) r ≡ Some (keys_after_journals round (n + r) 0 row)
 cells_after-get round n [] r row e = absurd (cc e)
 cells_after-get round n (x ∷ cells) zero row e =
-    let same = some_same x row e in
+    let same = same_Some x row e in
     let place : n ≡ n + 0 = omega arith in
     ap (λ (y : List CellState). Some (keys_after_journals round n 0 y)) same ∙ ap (λ (k : ℕ). Some (keys_after_journals round k 0 row)) place
 cells_after-get round n (x ∷ cells) (suc r) row e =
@@ -86,13 +71,13 @@ cell_after_logs run round state r key cell (row, at, is) = (
 -- a replica that was emptied has the base's cells, and another one what it had
 cell_restarted : (run : History) (q : ℕ) (base : BaseState) (state : WholeState) (r key : ℕ) (cell : CellState) → key < length run.key_names → HasCell state r key cell →
     ((r ≡ q) × HasCell (restarted run q base state) r key (rebuilt base key)) ⊎ ((r ≡ q → ⊥) × HasCell (restarted run q base state) r key cell)
-cell_restarted run q base state r key cell lt (row, at, is) = elim (same_or_not r q) [
+cell_restarted run q base state r key cell lt (row, at, is) = elim (cases_eq r q) [
   | inl same ↦ inl (
     same,
     (
       rebuilt_cells (length run.key_names) base,
       ap (λ (k : ℕ). slice_get (slice_set state.cells k (rebuilt_cells (length run.key_names) base)) r) (sym same)
-          ∙ slice_get-set_same state.cells r row (rebuilt_cells (length run.key_names) base) at,
+          ∙ slice_get-set_same state.cells r (rebuilt_cells (length run.key_names) base) (slice_get_within state.cells r row at),
       slice_get-map (rebuilt base) (numbers_from 0 (length run.key_names)) key
           ∙ ap (option_map (rebuilt base)) (slice_get-numbers (length run.key_names) 0 key lt) ∙ ap (λ (k : ℕ). Some (rebuilt base k)) (omega arith),
     ),
@@ -123,7 +108,7 @@ is_adopt (Adopt epoch r) = true
 is_adopt _ = false
 
 emptied_here : (q r : ℕ) → r ≡ q → has_number (q ∷ []) r ≡ true
-emptied_here q r same = let k = eqb-same q r (sym same) in grind (arith, k)
+emptied_here q r same = let k = eq-eqb q r (sym same) in grind (arith, k)
 
 module _ (run : History) (state : WholeState) (r key : ℕ) (cell : CellState) (lt : key < length run.key_names) (has : HasCell state r key cell) where
   same_cell : (line : GlobalLine) → is_adopt line ≡ false → HasCell (after_line run line state) r key cell → LineCell run line state r key cell

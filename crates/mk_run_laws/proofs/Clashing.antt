@@ -1,12 +1,12 @@
 -- Of two checks that clash, both let in, the first was given up before the second.
 use Rattle.std.proofs.Common.{◌≡◌, ◌⊎◌, ◌≤◌, ℕ, refl, inl, inr, sym, ap, ◌∙◌, List, [], ◌∷◌, ◌++◌, subst}
 use Rattle.mk_lists.specs.Among.{Among, Each-among, Among-append_left, Among-append_right}
-use Rattle.mk_cell.specs.declared.Act.{Act}
-use Rattle.mk_cell.specs.declared.Act.TheVariants.{CheckRead, CheckWrite, ReleaseRead, ReleaseWrite}
-use Rattle.mk_cell.specs.declared.JournalEntry.{JournalEntry}
-use Rattle.mk_cell.specs.Cells.{CellState}
-use Rattle.mk_cell.specs.Journals.{EachAnswered}
-use Rattle.mk_merge_laws.proofs.ListLaws.{Among-mapped}
+use Rattle.mk_lists.proofs.Members.{Among-from_map}
+use Rattle.mk_words.specs.declared.Act.{Act}
+use Rattle.mk_words.specs.declared.Act.TheVariants.{CheckRead, CheckWrite, ReleaseRead, ReleaseWrite}
+use Rattle.mk_words.specs.declared.JournalEntry.{JournalEntry}
+use Rattle.mk_words.specs.Cells.{CellState}
+use Rattle.mk_words.specs.Journals.{EachAnswered}
 use Rattle.mk_basic_laws.specs.CellMemory.{Done, ReadThenWrite, WriteThenRead}
 use Rattle.mk_run_laws.specs.Tenures.{DatedEntry, entries_in, tenure_of, AreInOrder, IsInBy, ClashesGiveUp}
 use Rattle.mk_run_laws.proofs.Tenured.{entries_in-append, tenure_answered, tenures_ascend}
@@ -19,7 +19,7 @@ pub record StandsBefore (one other : DatedEntry) (tenure : List DatedEntry) : Ty
   pub whole : tenure ≡ before ++ (one ∷ (middle ++ (other ∷ rest)))
 
 -- where a member stands
-split_at : (d : DatedEntry) (xs : List DatedEntry) → Among d xs → (before : List DatedEntry) × ((rest : List DatedEntry) × (xs ≡ before ++ (d ∷ rest)))
+pub split_at : (d : DatedEntry) (xs : List DatedEntry) → Among d xs → (before : List DatedEntry) × ((rest : List DatedEntry) × (xs ≡ before ++ (d ∷ rest)))
 split_at d [] a = absurd a
 split_at d (x ∷ xs) (inl same) = ([], (xs, ap (λ (y : DatedEntry). y ∷ xs) same))
 split_at d (x ∷ xs) (inr a) = let s = split_at d xs a in (x ∷ s.0, (s.1.0, ap (λ (ys : List DatedEntry). x ∷ ys) s.1.1))
@@ -63,7 +63,7 @@ middle_early d other (x ∷ middle) rest h (inr a) = middle_early d other middle
 -- an act in the middle stands in the tenure, not after the second entry
 done_between : (one other : DatedEntry) (tenure : List DatedEntry) → AreInOrder tenure → (s : StandsBefore one other tenure) → (act : Act) → Done act (entries_in s.middle) → IsInBy tenure other.round act
 done_between one other tenure order s act (entry, a, is) =
-    let f = Among-mapped (λ (d : DatedEntry). d.entry) entry s.middle a in
+    let f = Among-from_map (λ (d : DatedEntry). d.entry) entry s.middle a in
     let d = f.0 in
     let inside : Among d (s.before ++ (one ∷ (s.middle ++ (other ∷ s.rest)))) =
     Among-append_right d s.before (one ∷ (s.middle ++ (other ∷ s.rest))) (inr (Among-append_left d s.middle (other ∷ s.rest) f.1)) in

@@ -1,13 +1,13 @@
 -- A column's entries of a tenure stand in the order of its acts.
 use Rattle.std.proofs.Common.{◌≡◌, ◌<◌, ℕ, ◌+◌, Bool, true, false, refl, arith, inl, inr, sym, ap, ◌∙◌, List, [], ◌∷◌, ◌++◌, subst, cond, ◌&&◌, map, length}
 use Rattle.std.specs.Prelude.{slice_get, ◌==◌}
+use Rattle.std.proofs.lemmas.List.{append-nil, append_assoc}
+use Rattle.std.proofs.lemmas.Bool.{and_parts, eqb-true}
 use Rattle.mk_quorum.specs.Sizes.{members}
-use Rattle.mk_cell.specs.declared.JournalEntry.{JournalEntry}
-use Rattle.mk_column.specs.declared.KeyCall.{KeyCall}
-use Rattle.mk_column.specs.declared.Step.{Step}
-use Rattle.mk_column.specs.declared.Step.TheVariants.{Begin, Unread, Read, Stamp, Validate, Take, Key, Rule, Again, Takeover, Pick, Stop}
-use Rattle.mk_column.specs.ColumnState.{Setting}
-use Rattle.mk_merge_laws.proofs.ListLaws.{append-none, append-later, both_true, eqb-tells}
+use Rattle.mk_words.specs.declared.JournalEntry.{JournalEntry}
+use Rattle.mk_words.specs.declared.Step.{Step}
+use Rattle.mk_words.specs.declared.Step.TheVariants.{Begin, Unread, Read, Stamp, Validate, Take, Key, Rule, Again, Takeover, Pick, Stop}
+use Rattle.mk_model.specs.ColumnState.{Setting}
 use Rattle.mk_column_laws.specs.Moments.{Moment, PastAct, act_of, moment_through, step_done}
 use Rattle.mk_column_laws.specs.Moments.Event.{Doing}
 use Rattle.mk_history.specs.declared.RoundLog.{RoundLog}
@@ -45,9 +45,9 @@ log_acts round now [] = []
 log_acts round now (step ∷ log) = act_of round now step ++ log_acts round now log
 
 acts_done : (m : Moment) (log : List Step) → (moment_through m (map Doing log)).past.acts ≡ m.past.acts ++ log_acts m.round m.past.now log
-acts_done m [] = sym (append-none m.past.acts)
+acts_done m [] = sym (append-nil m.past.acts)
 acts_done m (step ∷ log) =
-    acts_done (step_done step m) log ∙ append-later m.past.acts (act_of m.round m.past.now step) (log_acts m.round m.past.now log)
+    acts_done (step_done step m) log ∙ append_assoc m.past.acts (act_of m.round m.past.now step) (log_acts m.round m.past.now log)
 
 stands_in_log : (m : Moment) (r key : ℕ) (log : List Step) → StandsIn (map (act_then m r key) (turns_in_log r key log)) (log_acts m.round m.past.now log)
 stands_in_log m r key [] = tt
@@ -58,9 +58,9 @@ stands_in_log m r key (Key call answer ∷ log) = by (call.replica == r && call.
         (act_then m call.replica call.key (turn call answer) ∷ log_acts m.round m.past.now log)
     by false k s = stands_later (act_then m call.replica call.key (turn call answer)) (map (act_then m r key) (turns_in_log r key log)) (log_acts m.round m.past.now log) s
     by true k s =
-        let both = both_true (call.replica == r) (call.key == key) k in
-        let at = eqb-tells call.replica r both.0 in
-        let on = eqb-tells call.key key both.1 in
+        let both = and_parts (call.replica == r) (call.key == key) k in
+        let at = eqb-true call.replica r both.0 in
+        let on = eqb-true call.key key both.1 in
         inl ((λ i. act_then m (at i) (on i) (turn call answer)), s)
 stands_in_log m r key (Begin client replica ∷ log) = stands_in_log m r key log
 stands_in_log m r key (Unread client ∷ log) = stands_in_log m r key log
@@ -135,7 +135,7 @@ module _ (run : History) (c r e key : ℕ) (clt : c < run.columns) (rlt : r < me
       (tenure : List DatedEntry) → StandsIn (acts_in c r e key tenure) m.past.acts →
       StandsIn (acts_in c r e key (tenure ++ tenure_from r e key n run state rounds)) (moment_through m (events_from c run state emptied rounds)).past.acts
   stands_rounds [] state emptied m n legal now tenure before =
-      subst (λ (xs : List DatedEntry). StandsIn (acts_in c r e key xs) m.past.acts) (sym (append-none tenure)) before
+      subst (λ (xs : List DatedEntry). StandsIn (acts_in c r e key xs) m.past.acts) (sym (append-nil tenure)) before
   stands_rounds (round ∷ rounds) state emptied m n legal now tenure before =
       let more = cond (has_epoch e (slice_get state.epochs.replicas r)) (map (dated_at n) (journal_of round r key)) [] in
       let later = tenure_from r e key (n + 1) run (after_round run round state) rounds in
@@ -143,7 +143,7 @@ module _ (run : History) (c r e key : ℕ) (clt : c < run.columns) (rlt : r < me
       let events = events_from c run (after_round run round state) (emptied_in round.globals) rounds in
       let up = now_works c state emptied round m in
       subst (λ (x : Moment). StandsIn (acts_in c r e key (tenure ++ (more ++ later))) x.past.acts) (sym (moment_through-append (begins state emptied m) (map Doing (log_of round c)) events))
-      (subst (λ (xs : List DatedEntry). StandsIn (acts_in c r e key xs) (moment_through next events).past.acts) (append-later tenure more later)
+      (subst (λ (xs : List DatedEntry). StandsIn (acts_in c r e key xs) (moment_through next events).past.acts) (append_assoc tenure more later)
       (stands_rounds rounds (after_round run round state) (emptied_in round.globals) next (n + 1) legal.1 (omega (arith, up, now)) (tenure ++ more)
       (stands_round round state emptied m ((legal.0).matched c r key clt rlt klt) n now tenure before)))
 

@@ -1,15 +1,15 @@
 -- The events of a column lead to the column that the whole has.
 use Rattle.std.proofs.Common.{◌≡◌, ◌<◌, ℕ, zero, suc, ◌+◌, refl, arith, sym, ap, ◌∙◌, List, [], ◌∷◌, ◌++◌, Some, cond, Bool, true, false, map, length}
-use Rattle.std.specs.Prelude.{slice_get, slice_index_or, option_map}
-use Rattle.std.proofs.lemmas.Option.{slice_get-map}
-use Rattle.mk_column.specs.declared.Step.{Step}
-use Rattle.mk_column.specs.ColumnState.{ColumnState, Setting, new_column, numbers_from}
-use Rattle.mk_column.specs.Logs.{column_through, reading_ended, replica_reset}
-use Rattle.mk_global.specs.declared.GlobalEntry.{GlobalEntry}
-use Rattle.mk_global.specs.declared.GlobalLine.{GlobalLine}
-use Rattle.mk_global.specs.declared.GlobalLine.TheVariants.{Wipe, Ask, Promise, Merge, Adopt, Enter}
-use Rattle.mk_epoch.specs.EpochState.{views_of}
-use Rattle.mk_epoch.specs.GlobalAnswers.{is_accepted}
+use Rattle.std.specs.Prelude.{slice_get, option_map}
+use Rattle.std.proofs.lemmas.Option.{slice_get-map, get_or_from_slice_get}
+use Rattle.mk_words.specs.declared.Step.{Step}
+use Rattle.mk_model.specs.ColumnState.{ColumnState, Setting, new_column, numbers_from}
+use Rattle.mk_model.specs.Logs.{column_through, reading_ended, replica_reset}
+use Rattle.mk_words.specs.declared.GlobalEntry.{GlobalEntry}
+use Rattle.mk_words.specs.declared.GlobalLine.{GlobalLine}
+use Rattle.mk_words.specs.declared.GlobalLine.TheVariants.{Wipe, Ask, Promise, Merge, Adopt, Enter}
+use Rattle.mk_model.specs.EpochState.{views_of}
+use Rattle.mk_model.specs.GlobalAnswers.{is_accepted}
 use Rattle.mk_column_laws.specs.Moments.{Moment, Event, moment_through, after_event, step_done, replicas_reset}
 use Rattle.mk_column_laws.specs.Moments.Event.{NewRound, Doing}
 use Rattle.mk_history.specs.declared.RoundLog.{RoundLog}
@@ -33,11 +33,6 @@ slice_get-numbers zero k c lt = absurd (omega (arith, lt))
 slice_get-numbers (suc n) k zero lt = ap Some (omega arith)
 slice_get-numbers (suc n) k (suc c) lt = slice_get-numbers n (k + 1) c (omega (arith, lt)) ∙ ap Some (omega arith)
 
-pub slice_index_or-get : {X : Type 0} (xs : List X) (c : ℕ) (x d : X) → slice_get xs c ≡ Some x → slice_index_or xs c d ≡ x
-slice_index_or-get [] c x d e = absurd (cc e)
-slice_index_or-get (y ∷ xs) zero x d e = cc e
-slice_index_or-get (y ∷ xs) (suc c) x d e = slice_index_or-get xs c x d e
-
 columns_after_logs-get : (setting : Setting) (round : RoundLog) (n : ℕ) (columns : List ColumnState) (c : ℕ) (column : ColumnState) → slice_get columns c ≡ Some column →
     slice_get (columns_after_logs setting round n columns) c ≡ Some (column_through setting column (log_of round (n + c)))
 columns_after_logs-get setting round n [] c column e = absurd (cc e)
@@ -56,7 +51,7 @@ abbrev pub HasColumn : WholeState → ℕ → ColumnState → Type 0
 HasColumn state c column = slice_get state.columns c ≡ Some column
 
 pub has_column : (state : WholeState) (c : ℕ) (column : ColumnState) → HasColumn state c column → column_of state c ≡ column
-has_column state c column e = slice_index_or-get state.columns c column (new_column 0 []) e
+has_column state c column e = get_or_from_slice_get state.columns c column (new_column 0 []) e
 
 pub column_first : (run : History) (c : ℕ) → c < run.columns → HasColumn (first_state run) c (new_column run.faults (clients_of c 1 run.client_columns))
 column_first run c lt =

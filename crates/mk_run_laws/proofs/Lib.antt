@@ -15,3 +15,17 @@ pub mod ClientNumbers
 pub mod StampColumns
 pub mod Ranges
 pub mod Voted
+pub mod Splitting
+pub mod LastMoments
+pub mod Served
+pub mod Emptied
+pub mod IdColumns
+pub mod Lifted
+pub mod Exactly
+pub mod Ending
+pub mod FoundLogs
+pub mod FoundLines
+pub mod Sources
+pub mod Cutting
+pub mod FoundOrder
+pub mod MadeRounds

@@ -1,13 +1,14 @@
 -- The global lines of a run are turns with legal answers.
 use Rattle.std.proofs.Common.{◌≡◌, ◌⊎◌, ◌<◌, ℕ, ◌+◌, refl, arith, sym, ap, ◌∙◌, List, [], ◌∷◌, ◌++◌, Some, subst, cond, Bool, true, false, length, inl, inr}
 use Rattle.std.specs.List.{list_any}
-use Rattle.mk_global.specs.declared.GlobalEntry.{GlobalEntry}
-use Rattle.mk_global.specs.declared.GlobalLine.{GlobalLine}
-use Rattle.mk_global.specs.declared.GlobalLine.TheVariants.{Enter}
-use Rattle.mk_epoch.specs.EpochState.{EpochState}
-use Rattle.mk_epoch.specs.GlobalAnswers.{is_accepted}
+use Rattle.std.proofs.lemmas.Bool.{eq-eqb}
+use Rattle.std.proofs.lemmas.List.{append_assoc}
+use Rattle.mk_words.specs.declared.GlobalEntry.{GlobalEntry}
+use Rattle.mk_words.specs.declared.GlobalLine.{GlobalLine}
+use Rattle.mk_words.specs.declared.GlobalLine.TheVariants.{Enter}
+use Rattle.mk_model.specs.EpochState.{EpochState}
+use Rattle.mk_model.specs.GlobalAnswers.{is_accepted}
 use Rattle.mk_epoch_laws.specs.Turns.{GlobalTurn, after_turn, after_turns, EachAnswered, WasEntered}
-use Rattle.mk_merge_laws.proofs.ListLaws.{eqb-same}
 use Rattle.mk_history.specs.declared.RoundLog.{RoundLog}
 use Rattle.mk_history.specs.Histories.{History}
 use Rattle.mk_history.specs.Legality.{EachGlobalAnswered, EachRoundLegal}
@@ -49,17 +50,13 @@ pub legal-later : (run : History) (state : WholeState) (one other : List RoundLo
 legal-later run state [] other h = h
 legal-later run state (round ∷ one) other h = legal-later run (after_round run round state) one other h.1
 
-append-later : {X : Type 0} (xs ys zs : List X) → (xs ++ ys) ++ zs ≡ xs ++ (ys ++ zs)
-append-later [] ys zs = refl
-append-later (x ∷ xs) ys zs = ap (λ ws. x ∷ ws) (append-later xs ys zs)
-
 pub turns_from-append : (run : History) (state : WholeState) (one other : List RoundLog) →
     turns_from run state (one ++ other) ≡ turns_from run state one ++ turns_from run (state_through run state one) other
 turns_from-append run state [] other = refl
 turns_from-append run state (round ∷ one) other =
     let here = turns_in run (after_logs run round state) round.globals in
     ap (λ (ts : List GlobalTurn). here ++ ts) (turns_from-append run (after_round run round state) one other)
-    ∙ sym (append-later here (turns_from run (after_round run round state) one) (turns_from run (state_through run (after_round run round state) one) other))
+    ∙ sym (append_assoc here (turns_from run (after_round run round state) one) (turns_from run (state_through run (after_round run round state) one) other))
 
 -- ---- the epoch machine of the whole
 
@@ -67,7 +64,7 @@ pub lines-lead : (run : History) (entries : List GlobalEntry) (state : WholeStat
 lines-lead run [] state = refl
 lines-lead run (entry ∷ entries) state = lines-lead run entries (after_global run state entry)
 
-lines-answered : (run : History) (entries : List GlobalEntry) (state : WholeState) → EachGlobalAnswered run state entries → EachAnswered state.epochs (turns_in run state entries)
+pub lines-answered : (run : History) (entries : List GlobalEntry) (state : WholeState) → EachGlobalAnswered run state entries → EachAnswered state.epochs (turns_in run state entries)
 lines-answered run [] state h = tt
 lines-answered run (entry ∷ entries) state h = (h.0, lines-answered run entries (after_global run state entry) h.1)
 
@@ -93,11 +90,11 @@ lines_are_turns run done legal = (rounds-answered run done (first_state run) leg
 
 -- ---- what was entered
 
-enters-tells : (e : ℕ) (entry : GlobalEntry) → entry.line ≡ Enter e → is_accepted entry.answer ≡ true → enters e entry ≡ true
+pub enters-tells : (e : ℕ) (entry : GlobalEntry) → entry.line ≡ Enter e → is_accepted entry.answer ≡ true → enters e entry ≡ true
 enters-tells e entry l is = by entry.line l
   where
     by : (line : GlobalLine) → line ≡ Enter e → enters e (record { line = line; answer = entry.answer }) ≡ true
-    by line l = subst (λ (x : GlobalLine). enters e (record { line = x; answer = entry.answer }) ≡ true) (sym l) (let k = eqb-same e e refl in grind (arith, k, is))
+    by line l = subst (λ (x : GlobalLine). enters e (record { line = x; answer = entry.answer }) ≡ true) (sym l) (let k = eq-eqb e e refl in grind (arith, k, is))
 
 entered-in : (run : History) (e : ℕ) (entries : List GlobalEntry) (state : WholeState) → WasEntered e (turns_in run state entries) → list_any (enters e) entries ≡ true
 entered-in run e [] state h = absurd h

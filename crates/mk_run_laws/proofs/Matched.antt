@@ -2,15 +2,17 @@
 use Rattle.std.proofs.Common.{◌≡◌, ◌<◌, ◌≤◌, ℕ, ◌+◌, Bool, true, false, refl, arith, inl, inr, sym, ap, ◌∙◌, List, [], ◌∷◌, ◌++◌, Option, Some, None, subst, cond, not, ◌&&◌, map, length}
 use Rattle.std.specs.Prelude.{slice_get, option_map, ◌==◌}
 use Rattle.std.proofs.lemmas.Option.{slice_get-map}
+use Rattle.std.proofs.lemmas.List.{append-nil, append_assoc}
+use Rattle.std.proofs.lemmas.Bool.{and_parts, eq-eqb, eqb-true}
 use Rattle.mk_lists.specs.Among.{Among, Among-append, Among-append_left, Among-append_right}
+use Rattle.mk_lists.proofs.Members.{Among-from_map, Among-map}
 use Rattle.mk_quorum.specs.Sizes.{members}
-use Rattle.mk_merge.specs.declared.ReplicaView.{ReplicaView}
-use Rattle.mk_column.specs.declared.Step.{Step}
-use Rattle.mk_column.specs.Replicas.{serves}
-use Rattle.mk_column.specs.Steps.{epoch_of}
-use Rattle.mk_epoch.specs.EpochState.{ReplicaState, view_of, views_of}
-use Rattle.mk_epoch.specs.GlobalAnswers.{lacks}
-use Rattle.mk_merge_laws.proofs.ListLaws.{append-none, append-later, Among-map, Among-mapped, both_true, eqb-tells, eqb-same}
+use Rattle.mk_trim.specs.declared.ReplicaView.{ReplicaView}
+use Rattle.mk_words.specs.declared.Step.{Step}
+use Rattle.mk_model.specs.Replicas.{serves}
+use Rattle.mk_model.specs.Steps.{epoch_of}
+use Rattle.mk_model.specs.EpochState.{ReplicaState, view_of, views_of}
+use Rattle.mk_model.specs.GlobalAnswers.{lacks}
 use Rattle.mk_column_laws.specs.Moments.{Moment, PastAct, moment_through, step_done}
 use Rattle.mk_column_laws.specs.Moments.Event.{Doing}
 use Rattle.mk_history.specs.declared.RoundLog.{RoundLog}
@@ -34,13 +36,13 @@ seen_in e xs r is = ap epoch_of (slice_get-map view_of xs r) ∙ by (slice_get x
   where
     by : (o : Option ReplicaState) → has_epoch e o ≡ true → epoch_of (option_map view_of o) ≡ e
     by None is = absurd (cc is)
-    by (Some x) is = eqb-tells x.adopted e (both_true (not (lacks x.phase)) (x.adopted == e) is).1
+    by (Some x) is = eqb-true x.adopted e (and_parts (not (lacks x.phase)) (x.adopted == e) is).1
 
 serves_has : (e : ℕ) (xs : List ReplicaState) (r : ℕ) → serves e (slice_get (map view_of xs) r) ≡ true → has_epoch e (slice_get xs r) ≡ true
 serves_has e xs r is =
     let s = serves_at xs r e is in
     let lost = ap lacks s.2 in
-    let same = eqb-same (s.0).adopted e s.3 in
+    let same = eq-eqb (s.0).adopted e s.3 in
     ap (has_epoch e) s.1 ∙ by (lacks (s.0).phase) lost ((s.0).adopted == e) same
   where
     by : (a : Bool) → a ≡ false → (b : Bool) → b ≡ true → (not a && b) ≡ true
@@ -58,7 +60,7 @@ module _ (run : History) (c r e key : ℕ) (clt : c < run.columns) (rlt : r < me
           Among (act_in r e key d) (works c state emptied round m).past.acts
       by false k a = absurd a
       by true k a =
-          let f = Among-mapped (dated_at n) d (journal_of round r key) a in
+          let f = Among-from_map (dated_at n) d (journal_of round r key) a in
           let entry = f.0 in
           let same = f.2 in
           let t = entry_turn c entry (journal_of round r key) f.1 (ap (λ (x : DatedEntry). x.entry.seat) same ∙ seat) in
@@ -103,7 +105,7 @@ module _ (run : History) (c r e key : ℕ) (clt : c < run.columns) (rlt : r < me
   served_before views now round old le is = by (round == now + 1) refl is
     where
       by : (b : Bool) → (round == now + 1) ≡ b → cond b (serves e (slice_get views r)) old ≡ true → old ≡ true
-      by true k is = absurd (let same = eqb-tells round (now + 1) k in omega (arith, same, le))
+      by true k is = absurd (let same = eqb-true round (now + 1) k in omega (arith, same, le))
       by false k is = is
 
   served_now : (views : List ReplicaView) (now round : ℕ) (old : Bool) → round ≡ now + 1 → cond (round == now + 1) (serves e (slice_get views r)) old ≡ true → serves e (slice_get views r) ≡ true
@@ -111,7 +113,7 @@ module _ (run : History) (c r e key : ℕ) (clt : c < run.columns) (rlt : r < me
     where
       by : (b : Bool) → (round == now + 1) ≡ b → cond b (serves e (slice_get views r)) old ≡ true → serves e (slice_get views r) ≡ true
       by true k is = is
-      by false k is = absurd (cc (sym k ∙ eqb-same round (now + 1) same))
+      by false k is = absurd (cc (sym k ∙ eq-eqb round (now + 1) same))
 
   -- the entry of an act of this round
   fresh : (round : RoundLog) (state : WholeState) → turns_in_journal c (journal_of round r key) ≡ turns_in_log r key (log_of round c) →
@@ -158,7 +160,7 @@ module _ (run : History) (c r e key : ℕ) (clt : c < run.columns) (rlt : r < me
 
   kept_rounds : (rounds : List RoundLog) (state : WholeState) (emptied : List ℕ) (m : Moment) (n : ℕ) → EachRoundLegal run state rounds → m.past.now + 1 ≡ n →
       (tenure : List DatedEntry) → Kept m tenure → Kept (moment_through m (events_from c run state emptied rounds)) (tenure ++ tenure_from r e key n run state rounds)
-  kept_rounds [] state emptied m n legal now tenure k = subst (Kept m) (sym (append-none tenure)) k
+  kept_rounds [] state emptied m n legal now tenure k = subst (Kept m) (sym (append-nil tenure)) k
   kept_rounds (round ∷ rounds) state emptied m n legal now tenure k =
       let more = cond (has_epoch e (slice_get state.epochs.replicas r)) (map (dated_at n) (journal_of round r key)) [] in
       let later = tenure_from r e key (n + 1) run (after_round run round state) rounds in
@@ -166,7 +168,7 @@ module _ (run : History) (c r e key : ℕ) (clt : c < run.columns) (rlt : r < me
       let events = events_from c run (after_round run round state) (emptied_in round.globals) rounds in
       let up = now_works c state emptied round m in
       subst (λ (x : Moment). Kept x (tenure ++ (more ++ later))) (sym (moment_through-append (begins state emptied m) (map Doing (log_of round c)) events))
-      (subst (Kept (moment_through next events)) (append-later tenure more later)
+      (subst (Kept (moment_through next events)) (append_assoc tenure more later)
       (kept_rounds rounds (after_round run round state) (emptied_in round.globals) next (n + 1) legal.1 (omega (arith, up, now)) (tenure ++ more)
       (kept_round round state emptied m ((legal.0).matched c r key clt rlt klt) n now tenure k)))
 

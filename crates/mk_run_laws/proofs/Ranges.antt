@@ -1,12 +1,13 @@
 -- The replicas, keys and columns of a run's acts and entries are in range.
-use Rattle.std.proofs.Common.{◌≡◌, ◌⊎◌, ◌<◌, ℕ, zero, suc, ◌+◌, Bool, true, false, refl, arith, inl, inr, sym, ap, ◌∙◌, List, [], ◌∷◌, ◌++◌, subst, cond, ◌&&◌, map, length}
+use Rattle.std.proofs.Common.{◌≡◌, ◌⊎◌, ◌<◌, ℕ, zero, suc, ◌+◌, Bool, true, false, refl, inl, inr, List, [], ◌∷◌, subst, cond, ◌&&◌, map, length}
 use Rattle.std.specs.Prelude.{slice_get, slice_index_or, nat_lt}
 use Rattle.std.specs.List.{list_all}
-use Rattle.std.proofs.lemmas.Bool.Decides.{nat_tests}
+use Rattle.std.proofs.lemmas.Bool.{and_parts, ltb-true}
 use Rattle.mk_lists.specs.Among.{Among, Each, Among-append}
+use Rattle.mk_lists.proofs.Members.{Among-from_map}
+use Rattle.mk_lists.proofs.Tests.{list_all-among}
 use Rattle.mk_quorum.specs.Sizes.{members}
-use Rattle.mk_column.specs.declared.Step.{Step}
-use Rattle.mk_merge_laws.proofs.ListLaws.{both_true, Among-mapped}
+use Rattle.mk_words.specs.declared.Step.{Step}
 use Rattle.mk_column_laws.specs.Moments.{Moment, PastAct, moment_through}
 use Rattle.mk_column_laws.specs.Moments.Event.{Doing}
 use Rattle.mk_history.specs.declared.RoundLog.{RoundLog}
@@ -21,20 +22,8 @@ use Rattle.mk_run_laws.proofs.Turns.{IsTurnOf, turn_of_act, first_turn, act_turn
 
 all_at : {X : Type 0} (p : X → Bool) (xs : List X) (c : ℕ) (d : X) → p d ≡ true → list_all p xs ≡ true → p (slice_index_or xs c d) ≡ true
 all_at p [] c d e h = e
-all_at p (x ∷ xs) zero d e h = (both_true (p x) (list_all p xs) h).0
-all_at p (x ∷ xs) (suc c) d e h = all_at p xs c d e (both_true (p x) (list_all p xs) h).1
-
-all_among : {X : Type 0} (p : X → Bool) (xs : List X) (x : X) → list_all p xs ≡ true → Among x xs → p x ≡ true
-all_among p [] x h a = absurd a
-all_among p (y ∷ xs) x h (inl e) = ap p (sym e) ∙ (both_true (p y) (list_all p xs) h).0
-all_among p (y ∷ xs) x h (inr a) = all_among p xs x (both_true (p y) (list_all p xs) h).1 a
-
-pub each_first : {X : Type 0} (P : X → Type 0) (xs ys : List X) → Each P (xs ++ ys) → Each P xs
-each_first P [] ys h = tt
-each_first P (x ∷ xs) ys h = (h.0, each_first P xs ys h.1)
-
-below : (a b : ℕ) → nat_lt a b ≡ true → a < b
-below a b e = grind (arith, nat_tests, e)
+all_at p (x ∷ xs) zero d e h = (and_parts (p x) (list_all p xs) h).0
+all_at p (x ∷ xs) (suc c) d e h = all_at p xs c d e (and_parts (p x) (list_all p xs) h).1
 
 -- the replica and the key are there
 abbrev pub InRange : History → (r key : ℕ) → Type 0
@@ -43,7 +32,7 @@ InRange run r key = (r < members run.faults) × (key < length run.key_names)
 turn_in_range : (run : History) (r key : ℕ) (t : Turn) (log : List Step) → list_all (step_fits run) log ≡ true → Among t (turns_in_log r key log) → InRange run r key
 turn_in_range run r key t [] h a = absurd a
 turn_in_range run r key t (step ∷ log) h a =
-    let both = both_true (step_fits run step) (list_all (step_fits run) log) h in
+    let both = and_parts (step_fits run step) (list_all (step_fits run) log) h in
     elim (first_turn r key t step log a) [
       | inr later ↦ turn_in_range run r key t log both.1 later
       | inl here ↦ by here both.0
@@ -52,10 +41,10 @@ turn_in_range run r key t (step ∷ log) h a =
     by : IsTurnOf r key t step → step_fits run step ≡ true → InRange run r key
     by (call, (answer, (is, at, on, same))) fits =
         let f = subst (λ (s : Step). step_fits run s ≡ true) is fits in
-        let p = both_true (replica_fits run call.replica && key_fits run call.key) (turn_fits run call.act answer) f in
-        let q = both_true (replica_fits run call.replica) (key_fits run call.key) p.0 in (
-          subst (λ (n : ℕ). n < members run.faults) at (below call.replica (members run.faults) q.0),
-          subst (λ (n : ℕ). n < length run.key_names) on (below call.key (length run.key_names) q.1),
+        let p = and_parts (replica_fits run call.replica && key_fits run call.key) (turn_fits run call.act answer) f in
+        let q = and_parts (replica_fits run call.replica) (key_fits run call.key) p.0 in (
+          subst (λ (n : ℕ). n < members run.faults) at (ltb-true call.replica (members run.faults) q.0),
+          subst (λ (n : ℕ). n < length run.key_names) on (ltb-true call.key (length run.key_names) q.1),
         )
 
 pub act_in_range : (run : History) (c : ℕ) (rounds : List RoundLog) (state : WholeState) (emptied : List ℕ) (m : Moment) → Each (IsRoundShape run) rounds → (act : PastAct) →
@@ -85,8 +74,8 @@ seat_in_range run r e key n (round ∷ rounds) state shape d a =
     by : (b : Bool) → Among d (cond b (map (dated_at n) (journal_of round r key)) []) → d.entry.seat < run.columns
     by false a = absurd a
     by true a =
-        let f = Among-mapped (dated_at n) d (journal_of round r key) a in
+        let f = Among-from_map (dated_at n) d (journal_of round r key) a in
         let fits = all_at (list_all (entry_fits run)) (slice_index_or round.journals r []) key [] refl (all_at (list_all (list_all (entry_fits run))) round.journals r [] refl (shape.0).entries) in
-        let one = all_among (entry_fits run) (journal_of round r key) f.0 fits f.1 in
-        let p = both_true (nat_lt (f.0).seat run.columns) (turn_fits run (f.0).act (f.0).answer) one in
-        subst (λ (x : DatedEntry). x.entry.seat < run.columns) f.2 (below (f.0).seat run.columns p.0)
+        let one = list_all-among (entry_fits run) (journal_of round r key) f.0 fits f.1 in
+        let p = and_parts (nat_lt (f.0).seat run.columns) (turn_fits run (f.0).act (f.0).answer) one in
+        subst (λ (x : DatedEntry). x.entry.seat < run.columns) f.2 (ltb-true (f.0).seat run.columns p.0)

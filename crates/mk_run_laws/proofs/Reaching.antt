@@ -2,35 +2,36 @@
 use Rattle.std.proofs.Common.{◌≡◌, ◌⊎◌, ◌<◌, ℕ, ◌+◌, Bool, true, false, refl, arith, inl, inr, sym, ap, ◌∙◌, List, [], ◌∷◌, ◌++◌, Option, Some, None, subst, cond, ◌||◌, ◌&&◌, map, length}
 use Rattle.std.specs.Prelude.{slice_get, nat_lt, option_map, find, ◌==◌}
 use Rattle.std.proofs.lemmas.Bool.Decides.{nat_tests}
-use Rattle.std.proofs.lemmas.Option.{slice_get-map}
+use Rattle.std.proofs.lemmas.Option.{slice_get-map, same_Some}
 use Rattle.mk_lists.specs.Among.{Among}
+use Rattle.mk_lists.proofs.Tests.{list_any-from_Among}
+use Rattle.mk_lists.proofs.Lookups.{find_tells}
 use Rattle.mk_txn.specs.declared.TxnId.{TxnId}
 use Rattle.mk_txn.specs.declared.Known.TheVariants.{Forgotten}
 use Rattle.mk_txn.specs.declared.Cause.TheVariants.{Epoch as ByEpoch}
 use Rattle.mk_txn.specs.declared.Outcome.TheVariants.{Abort}
 use Rattle.std.specs.Option.{unwrap_or}
+use Rattle.std.proofs.lemmas.Bool.{and_parts, eqb-true}
 use Rattle.mk_txn.specs.declared.Outcome.{Outcome}
-use Rattle.mk_txn.proofs.ClashFacts.{list_any-from_member}
 use Rattle.mk_quorum.specs.Slots.{passes}
-use Rattle.mk_trim.specs.KeptOutcomes.{known_of, known_outcome}
+use Rattle.mk_words.specs.KeptOutcomes.{known_of, known_outcome}
 use Rattle.mk_txn.specs.MarkMaps.{covers}
-use Rattle.mk_merge.specs.declared.Phase.{Phase}
-use Rattle.mk_merge.specs.declared.Phase.TheVariants.{Serving, Paused, Adopted, Lacking}
-use Rattle.mk_merge.specs.declared.ReplicaView.{ReplicaView}
-use Rattle.mk_merge.specs.Bases.{BaseState, empty_base, known, kept_of, fate_in}
-use Rattle.mk_merge.proofs.KnownLaws.{known-kept}
-use Rattle.mk_column.specs.declared.Step.{Step}
-use Rattle.mk_column.specs.ColumnState.{ColumnState, Setting}
-use Rattle.mk_column.specs.ColumnState.Work.{Idle}
-use Rattle.mk_column.specs.Replicas.{serves, is_serving}
-use Rattle.mk_column.specs.Answers.{outcome_after}
-use Rattle.mk_column.specs.Logs.{EachEnabled, column_through, reading_ended}
-use Rattle.mk_epoch.specs.EpochState.{EpochState, ReplicaState, MadeBase, first_epochs, view_of, views_of, made_for, base_for}
-use Rattle.mk_epoch.specs.GlobalAnswers.{lacks}
+use Rattle.mk_words.specs.declared.Phase.{Phase}
+use Rattle.mk_words.specs.declared.Phase.TheVariants.{Serving, Paused, Adopted, Lacking}
+use Rattle.mk_trim.specs.declared.ReplicaView.{ReplicaView}
+use Rattle.mk_words.specs.Bases.{BaseState, empty_base, known, kept_of, fate_in}
+use Rattle.mk_words.proofs.KnownLaws.{known-kept}
+use Rattle.mk_words.specs.declared.Step.{Step}
+use Rattle.mk_model.specs.ColumnState.{ColumnState, Setting}
+use Rattle.mk_model.specs.ColumnState.Work.{Idle}
+use Rattle.mk_model.specs.Replicas.{serves, is_serving}
+use Rattle.mk_model.specs.Answers.{outcome_after}
+use Rattle.mk_model.specs.Logs.{EachEnabled, column_through, reading_ended}
+use Rattle.mk_model.specs.EpochState.{EpochState, ReplicaState, MadeBase, first_epochs, view_of, views_of, made_for, base_for}
+use Rattle.mk_model.specs.GlobalAnswers.{lacks}
 use Rattle.mk_epoch_laws.specs.Turns.{Always, AlwaysLater, EachAnswered, after_turns, WasEntered}
 use Rattle.mk_epoch_laws.specs.WordLaws.{IsAt, PhaseFits, PhaseAndWord}
 use Rattle.mk_epoch_laws.specs.BaseLaws.{BasesHeld, BasesStay, ServingWasEntered}
-use Rattle.mk_merge_laws.proofs.ListLaws.{both_true, eqb-tells, find-some, some_same}
 use Rattle.mk_column_laws.specs.Moments.{Moment, Event, IsRound, EachHappens, after_event, moment_through, step_done, past_begun, has_number, replicas_reset}
 use Rattle.mk_column_laws.specs.Moments.Event.{Doing}
 use Rattle.mk_history.specs.declared.RoundLog.{RoundLog}
@@ -71,7 +72,7 @@ view_at xs r view e = by (slice_get xs r) refl (sym (slice_get-map view_of xs r)
   where
     by : (o : Option ReplicaState) → slice_get xs r ≡ o → option_map view_of o ≡ Some view → (x : ReplicaState) × (slice_get xs r ≡ Some x) × (view_of x ≡ view)
     by None k e = absurd (cc e)
-    by (Some x) k e = (x, k, some_same (view_of x) view e)
+    by (Some x) k e = (x, k, same_Some (view_of x) view e)
 
 serving_phase : (phase : Phase) → is_serving phase ≡ true → phase ≡ Serving
 serving_phase Serving e = refl
@@ -85,7 +86,7 @@ serves_at xs r e is = by (slice_get xs r) refl (subst (λ (o : Option ReplicaVie
   where
     by : (o : Option ReplicaState) → slice_get xs r ≡ o → serves e (option_map view_of o) ≡ true → (x : ReplicaState) × (slice_get xs r ≡ Some x) × (x.phase ≡ Serving) × (x.adopted ≡ e)
     by None k is = absurd (cc is)
-    by (Some x) k is = let b = both_true (is_serving x.phase) (x.adopted == e) is in (x, k, serving_phase x.phase b.0, eqb-tells x.adopted e b.1)
+    by (Some x) k is = let b = and_parts (is_serving x.phase) (x.adopted == e) is in (x, k, serving_phase x.phase b.0, eqb-true x.adopted e b.1)
 
 -- ---- what a view teaches
 
@@ -94,41 +95,41 @@ known_tells base epoch id outcome e = by (covers base.marks id) (fate_in id base
   where
     by : (b : Bool) (o : Option Outcome) → fate_in id base.list ≡ o → outcome_after epoch (cond b Forgotten (known_outcome o)) ≡ Some outcome → stands_in base epoch id ≡ outcome
     by true o k e = absurd (cc e)
-    by false None k e = ap (λ (x : Option Outcome). unwrap_or x (Abort (ByEpoch epoch))) k ∙ some_same (Abort (ByEpoch epoch)) outcome e
-    by false (Some x) k e = ap (λ (y : Option Outcome). unwrap_or y (Abort (ByEpoch epoch))) k ∙ some_same x outcome e
+    by false None k e = ap (λ (x : Option Outcome). unwrap_or x (Abort (ByEpoch epoch))) k ∙ same_Some (Abort (ByEpoch epoch)) outcome e
+    by false (Some x) k e = ap (λ (y : Option Outcome). unwrap_or y (Abort (ByEpoch epoch))) k ∙ same_Some x outcome e
 
 view_teaches : (base : BaseState) (epoch : ℕ) (id : TxnId) (outcome : Outcome) → outcome_after epoch (known_of (kept_of base) id) ≡ Some outcome → stands_in base epoch id ≡ outcome
 view_teaches base epoch id outcome e = known_tells base epoch id outcome (ap (outcome_after epoch) (sym (known-kept base id)) ∙ e)
 
 -- a base that is found was made
-made_found : (epoch : ℕ) (made : List MadeBase) (base : BaseState) → option_map (λ (m : MadeBase). m.base) (find (λ (m : MadeBase). m.epoch == epoch) made) ≡ Some base →
+pub made_found : (epoch : ℕ) (made : List MadeBase) (base : BaseState) → option_map (λ (m : MadeBase). m.base) (find (λ (m : MadeBase). m.epoch == epoch) made) ≡ Some base →
     (m : MadeBase) × Among m made × (m.epoch ≡ epoch) × (m.base ≡ base)
 made_found epoch made base e = by (find (λ (m : MadeBase). m.epoch == epoch) made) refl e
   where
     by : (o : Option MadeBase) → find (λ (m : MadeBase). m.epoch == epoch) made ≡ o → option_map (λ (m : MadeBase). m.base) o ≡ Some base →
         (m : MadeBase) × Among m made × (m.epoch ≡ epoch) × (m.base ≡ base)
     by None k e = absurd (cc e)
-    by (Some m) k e = let f = find-some (λ (m : MadeBase). m.epoch == epoch) made m k in (m, f.0, eqb-tells m.epoch epoch f.1, some_same m.base base e)
+    by (Some m) k e = let f = find_tells (λ (m : MadeBase). m.epoch == epoch) made m k in (m, f.0, eqb-true m.epoch epoch f.1, same_Some m.base base e)
 
-base_made : (epoch : ℕ) (state : EpochState) (base : BaseState) → 0 < epoch → base_for epoch state ≡ Some base → made_for epoch state ≡ Some base
+pub base_made : (epoch : ℕ) (state : EpochState) (base : BaseState) → 0 < epoch → base_for epoch state ≡ Some base → made_for epoch state ≡ Some base
 base_made epoch state base up e = by (epoch == 0) refl e
   where
     by : (b : Bool) → (epoch == 0) ≡ b → cond b (Some empty_base) (made_for epoch state) ≡ Some base → made_for epoch state ≡ Some base
-    by true k e = absurd (let first = eqb-tells epoch 0 k in omega (arith, first, up))
+    by true k e = absurd (let first = eqb-true epoch 0 k in omega (arith, first, up))
     by false k e = e
 
-entered_round_up : (run : History) (epoch i : ℕ) → 0 < epoch → entered_from epoch 1 run.rounds ≡ Some i → entered_round run epoch ≡ Some i
+pub entered_round_up : (run : History) (epoch i : ℕ) → 0 < epoch → entered_from epoch 1 run.rounds ≡ Some i → entered_round run epoch ≡ Some i
 entered_round_up run epoch i up e = by (epoch == 0) refl
   where
     by : (b : Bool) → (epoch == 0) ≡ b → cond b (Some 0) (entered_from epoch 1 run.rounds) ≡ Some i
-    by true k = absurd (let first = eqb-tells epoch 0 k in omega (arith, first, up))
+    by true k = absurd (let first = eqb-true epoch 0 k in omega (arith, first, up))
     by false k = e
 
-length-one : (xs : List RoundLog) (x : RoundLog) → length (xs ++ x ∷ []) ≡ length xs + 1
+pub length-one : (xs : List RoundLog) (x : RoundLog) → length (xs ++ x ∷ []) ≡ length xs + 1
 length-one [] x = refl
 length-one (y ∷ xs) x = let k = length-one xs x in omega (arith, k)
 
-append-one : (xs : List RoundLog) (x : RoundLog) (ys : List RoundLog) → xs ++ x ∷ ys ≡ (xs ++ x ∷ []) ++ ys
+pub append-one : (xs : List RoundLog) (x : RoundLog) (ys : List RoundLog) → xs ++ x ∷ ys ≡ (xs ++ x ∷ []) ++ ys
 append-one [] x ys = refl
 append-one (y ∷ xs) x ys = ap (λ (zs : List RoundLog). y ∷ zs) (append-one xs x ys)
 
@@ -149,7 +150,7 @@ serves_now : (xs : List ReplicaState) (r e : ℕ) (left : Bool) → serves e (sl
 serves_now xs r e left is (x, at, inl h) = h.1
 serves_now xs r e left is (x, at, inr h) =
     let s = serves_at xs r e is in
-    let same = some_same x s.0 (sym at ∙ s.1) in
+    let same = same_Some x s.0 (sym at ∙ s.1) in
     absurd (by s.0 s.2 s.3 (subst (IsPast e) same h))
   where
     by : (y : ReplicaState) → y.phase ≡ Serving → y.adopted ≡ e → IsPast e y → ⊥
@@ -157,7 +158,7 @@ serves_now xs r e left is (x, at, inr h) =
     by y serving same (le, inr beyond) = omega (arith, same, beyond)
 
 -- the flag where a round begins
-left_flag : (a b d : Bool) → (a || b) ≡ false → (a || (b && d)) ≡ false
+pub left_flag : (a b d : Bool) → (a || b) ≡ false → (a || (b && d)) ≡ false
 left_flag a b d e = grind (arith, e)
 
 module _ (run : History) (legal : IsLegal run) (c : ℕ) (lt : c < run.columns)
@@ -204,7 +205,7 @@ module _ (run : History) (legal : IsLegal run) (c : ℕ) (lt : c < run.columns)
         let stays = (stay run.faults turns more answered answered_more found.0 found.1).0 in
         let there = subst (λ (s : EpochState). Among found.0 s.made) late stays in
         let was = entered_then (entered run.faults turns answered r x here serving) in
-        list_any-from_member (teaches run id epoch outcome (m.past.now + 1)) (last_state run).epochs.made found.0 there
+        list_any-from_Among (teaches run id epoch outcome (m.past.now + 1)) (last_state run).epochs.made found.0 there
         (passes_all found.0 found.2 found.3 was)
       where
         entered_then : (x.adopted ≡ 0) ⊎ WasEntered x.adopted (turns_of run before) → was_entered run x.adopted (m.past.now + 1) ≡ true
@@ -270,7 +271,7 @@ module _ (run : History) (legal : IsLegal run) (c : ℕ) (lt : c < run.columns)
         by false l false false k is = absurd (cc is)
 
   -- one round more
-  next_before : (before : List RoundLog) (round : RoundLog) (rest : List RoundLog) → run.rounds ≡ before ++ round ∷ rest → (state : WholeState) (emptied : List ℕ) (m : Moment) →
+  pub next_before : (before : List RoundLog) (round : RoundLog) (rest : List RoundLog) → run.rounds ≡ before ++ round ∷ rest → (state : WholeState) (emptied : List ℕ) (m : Moment) →
       IsLegalRound run round state → Before run c before state emptied m →
       Before run c (before ++ round ∷ []) (after_round run round state) (emptied_in round.globals) (works c state emptied round m)
   next_before before round rest split state emptied m fine h =
@@ -315,7 +316,7 @@ module _ (run : History) (legal : IsLegal run) (c : ℕ) (lt : c < run.columns)
             ),
       )
 
-  happens_all : EachHappens (taught_in run) (start_of run c) (events_of run c run.rounds)
+  pub happens_all : EachHappens (taught_in run) (start_of run c) (events_of run c run.rounds)
   happens_all =
       happens_from [] run.rounds refl (first_state run) [] (start_of run c) legal
       (record {

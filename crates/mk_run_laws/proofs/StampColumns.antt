@@ -1,11 +1,13 @@
 -- A stamp is of one column, since its client is.
 use Rattle.std.proofs.Common.{◌≡◌, ℕ, sym, ◌∙◌, Some, subst}
+use Rattle.std.proofs.lemmas.Bool.{eqb-true}
 use Rattle.mk_lists.specs.Among.{Among}
+use Rattle.mk_lists.proofs.Members.{Among-map}
+use Rattle.mk_lists.proofs.Lookups.{find_tells}
 use Rattle.mk_txn.specs.declared.TxnId.{TxnId}
 use Rattle.mk_txn.specs.declared.Stamp.{Stamp}
 use Rattle.mk_txn.specs.Transactions.{Transaction}
-use Rattle.mk_column.specs.ColumnState.{AttemptState, ClientState, attempt_of, is_client}
-use Rattle.mk_merge_laws.proofs.ListLaws.{Among-map, find-some, eqb-tells}
+use Rattle.mk_model.specs.ColumnState.{AttemptState, ClientState, attempt_of, is_client}
 use Rattle.mk_column_laws.specs.Moments.{Moment}
 use Rattle.mk_column_laws.specs.Identity.{Identity}
 use Rattle.mk_history.specs.Histories.{History, clients_of}
@@ -23,8 +25,8 @@ pub client_there : (run : History) (c : ℕ) (m : Moment) → IsMomentOf run c m
     attempt_of m.column id ≡ Some a → a.txn ≡ Some txn → Among txn.stamp.client (clients_of c 1 run.client_columns)
 client_there run c m k h id a txn there stamped =
     let s = h.stamps id a txn there stamped in
-    let found = find-some (is_client id.client) m.column.clients s.client s.found in
-    let number = eqb-tells (s.client).number id.client found.1 in
+    let found = find_tells (is_client id.client) m.column.clients s.client s.found in
+    let number = eqb-true (s.client).number id.client found.1 in
     subst (λ (n : ℕ). Among n (clients_of c 1 run.client_columns)) (number ∙ sym s.of_client)
     (subst (Among (s.client).number) (numbers_then run c m k) (Among-map (λ (x : ClientState). x.number) s.client m.column.clients found.0))
 

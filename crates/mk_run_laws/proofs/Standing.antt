@@ -2,18 +2,22 @@
 use Rattle.std.proofs.Common.{◌≡◌, ◌⊎◌, ◌<◌, ◌≤◌, ℕ, Bool, true, false, refl, arith, inl, inr, sym, ap, ◌∙◌, List, [], ◌∷◌, ◌++◌, Option, Some, None, subst, cond, not, ◌||◌}
 use Rattle.std.specs.Prelude.{slice_get, slice_set, nat_le, nat_lt, is_some, ◌==◌}
 use Rattle.std.proofs.lemmas.Bool.Decides.{nat_tests}
-use Rattle.mk_merge.specs.declared.Phase.{Phase}
-use Rattle.mk_merge.specs.declared.Phase.TheVariants.{Serving, Paused, Adopted, Lacking}
-use Rattle.mk_merge.specs.Bases.{BaseState}
-use Rattle.mk_global.specs.declared.GlobalEntry.{GlobalEntry}
-use Rattle.mk_global.specs.declared.GlobalLine.{GlobalLine}
-use Rattle.mk_global.specs.declared.GlobalLine.TheVariants.{Wipe, Ask, Promise, Merge, Adopt, Enter}
-use Rattle.mk_global.specs.declared.GlobalAnswer.{GlobalAnswer}
-use Rattle.mk_global.specs.declared.GlobalAnswer.TheVariants.{Ok as Done, Unasked, Unmade, Lacking as AnswerLacking, Old}
-use Rattle.mk_epoch.specs.EpochState.{EpochState, ReplicaState, was_asked, made_for}
-use Rattle.mk_epoch.specs.GlobalAnswers.{global_answer, promise_answer, adopt_answer, is_too_old, lacks, is_accepted}
-use Rattle.mk_epoch.specs.GlobalSteps.{HandedIn, IsAnswer, global_after, change_replica, wiped, promised, with_promise, with_base, adopting, base_or_empty, serving, is_adopted, with_adoption, awaits_enter}
-use Rattle.mk_merge_laws.proofs.ListLaws.{same_or_not, both_true, slice_get-set_same, slice_get-set_other, slice_get-change, slice_get-changed, some_same}
+use Rattle.std.proofs.lemmas.Bool.{and_parts, cases_eq}
+use Rattle.std.proofs.lemmas.Option.{same_Some, slice_get_within}
+use Rattle.mk_lists.proofs.Places.{slice_get-set_other, slice_get-set_same}
+use Rattle.mk_lists.proofs.Changes.{slice_get-change, slice_get-from_change}
+use Rattle.mk_epoch_laws.proofs.Turning.{answer_given}
+use Rattle.mk_epoch_laws.proofs.LineNews.{promise_done}
+use Rattle.mk_words.specs.declared.Phase.{Phase}
+use Rattle.mk_words.specs.declared.Phase.TheVariants.{Serving, Paused, Adopted, Lacking}
+use Rattle.mk_words.specs.Bases.{BaseState}
+use Rattle.mk_words.specs.declared.GlobalEntry.{GlobalEntry}
+use Rattle.mk_words.specs.declared.GlobalLine.{GlobalLine}
+use Rattle.mk_words.specs.declared.GlobalLine.TheVariants.{Wipe, Ask, Promise, Merge, Adopt, Enter}
+use Rattle.mk_words.specs.declared.GlobalAnswer.TheVariants.{Ok as Done, Unmade, Old}
+use Rattle.mk_model.specs.EpochState.{EpochState, ReplicaState, made_for}
+use Rattle.mk_model.specs.GlobalAnswers.{global_answer, promise_answer, adopt_answer, is_too_old, lacks, is_accepted}
+use Rattle.mk_model.specs.GlobalSteps.{HandedIn, global_after, change_replica, wiped, promised, with_promise, with_base, adopting, base_or_empty, serving, is_adopted, with_adoption, awaits_enter}
 use Rattle.mk_column_laws.specs.Moments.{has_number}
 use Rattle.mk_history.specs.Histories.{History}
 use Rattle.mk_history.specs.Legality.{EachGlobalAnswered}
@@ -39,11 +43,11 @@ At P r xs = (x : ReplicaState) × (slice_get xs r ≡ Some x) × P x
 -- one place is set
 pub at_set : (P Q : ReplicaState → Type 0) (xs : List ReplicaState) (q : ℕ) (x y : ReplicaState) → slice_get xs q ≡ Some x → (r : ℕ) →
     (r ≡ q → P x → Q y) → ((r ≡ q → ⊥) → (z : ReplicaState) → P z → Q z) → At P r xs → At Q r (slice_set xs q y)
-at_set P Q xs q x y at r here there (z, is, h) = elim (same_or_not r q) [
+at_set P Q xs q x y at r here there (z, is, h) = elim (cases_eq r q) [
   | inl same ↦ (
     y,
-    subst (λ (n : ℕ). slice_get (slice_set xs q y) n ≡ Some y) (sym same) (slice_get-set_same xs q x y at),
-    here same (subst P (some_same z x (sym is ∙ ap (slice_get xs) same ∙ at)) h),
+    subst (λ (n : ℕ). slice_get (slice_set xs q y) n ≡ Some y) (sym same) (slice_get-set_same xs q y (slice_get_within xs q x at)),
+    here same (subst P (same_Some z x (sym is ∙ ap (slice_get xs) same ∙ at)) h),
   )
   | inr apart ↦ (z, slice_get-set_other xs q r y apart ∙ is, there apart z h)
 ]
@@ -118,16 +122,6 @@ adopt_may state epoch x is = by (not (is_some (made_for epoch state))) (is_too_o
     by false true is = absurd (cc is)
     by false false is = refl
 
-pub promise_may : (state : EpochState) (epoch : ℕ) (x : ReplicaState) → is_accepted (promise_answer state epoch (Some x)) ≡ true → (lacks x.phase ≡ false) × (x.word < epoch)
-promise_may state epoch x is = by (not (was_asked epoch state)) (lacks x.phase) refl (nat_le epoch x.word) refl is
-  where
-    by : (a b : Bool) → lacks x.phase ≡ b → (c : Bool) → nat_le epoch x.word ≡ c →
-        is_accepted (cond a Unasked (cond b AnswerLacking (cond c (Old x.word) Done))) ≡ true → (lacks x.phase ≡ false) × (x.word < epoch)
-    by true b p c q is = absurd (cc is)
-    by false true p c q is = absurd (cc is)
-    by false false p true q is = absurd (cc is)
-    by false false p false q is = (p, grind (arith, nat_tests, q))
-
 entered_stands : (e epoch : ℕ) (left : Bool) (x z : ReplicaState) → (x ≡ z) ⊎ ((awaits_enter epoch x ≡ true) × (serving x ≡ z)) → Stands e left x → Stands e left z
 entered_stands e epoch left x z (inl k) h = subst (Stands e left) k h
 entered_stands e epoch left x z (inr k) h = subst (Stands e left) k.1 (by h)
@@ -140,7 +134,7 @@ entered_stands e epoch left x z (inr k) h = subst (Stands e left) k.1 (by h)
 
     by : Stands e left x → Stands e left (serving x)
     by (inl h) = inl ((h.0.0, refl, h.0.2), h.1)
-    by (inr (le, inl lost)) = absurd (waits x.phase (both_true (is_adopted x.phase) (x.adopted == epoch) k.0).0 lost)
+    by (inr (le, inl lost)) = absurd (waits x.phase (and_parts (is_adopted x.phase) (x.adopted == epoch) k.0).0 lost)
     by (inr (le, inr beyond)) = inr (le, inr beyond)
 
 module _ (state : EpochState) (handed : HandedIn) (e r : ℕ) (left : Bool) where
@@ -168,7 +162,7 @@ module _ (state : EpochState) (handed : HandedIn) (e r : ℕ) (left : Bool) wher
           At (Stands e (left || has_number [] r)) r (change_replica q (promised epoch) o (with_promise epoch q handed o state)).replicas
       by None at is = absurd (cc is)
       by (Some x) at is =
-          let may = promise_may state epoch x is in
+          let may = promise_done state epoch x is in
           at_set (Stands e left) (Stands e (left || has_number [] r)) state.replicas q x (promised epoch x) at r
           (λ k. promised_stands e epoch left (left || has_number [] r) x may.0 may.1 (flag-none r left)) (λ _. same e r left) h
   line_stands (Ask epoch) is h = (h.0, h.1, same e r left h.0 h.2)
@@ -178,16 +172,12 @@ module _ (state : EpochState) (handed : HandedIn) (e r : ℕ) (left : Bool) wher
       by None = (h.0, h.1, same e r left h.0 h.2)
       by (Some base) = (h.0, h.1, same e r left h.0 h.2)
   line_stands (Enter epoch) is (x, at, h) =
-      let t = slice_get-changed (awaits_enter epoch) serving state.replicas r x at in
-      let k = slice_get-change (awaits_enter epoch) serving state.replicas r t.0 t.1 in
-      let old = subst (Stands e left) (some_same x k.0 (sym at ∙ k.1)) h in
+      let t = slice_get-change (awaits_enter epoch) serving state.replicas r x at in
+      let k = slice_get-from_change (awaits_enter epoch) serving state.replicas r t.0 t.1 in
+      let old = subst (Stands e left) (same_Some x k.0 (sym at ∙ k.1)) h in
       (t.0, t.1, same e r left t.0 (entered_stands e epoch left k.0 t.0 k.2 old))
 
 -- ---- the lines of a round
-
-pub answer_given : (state : EpochState) (line : GlobalLine) (answer : GlobalAnswer) → IsAnswer state line answer → is_accepted answer ≡ true → is_accepted (global_answer state line) ≡ true
-answer_given state line answer (inl k) is = ap is_accepted (sym k) ∙ is
-answer_given state line answer (inr fault) is = absurd (cc (sym (ap is_accepted fault.0) ∙ is))
 
 has_number-append : (one later : List ℕ) (r : ℕ) (left : Bool) → ((left || has_number one r) || has_number later r) ≡ (left || has_number (one ++ later) r)
 has_number-append [] later r left = grind arith

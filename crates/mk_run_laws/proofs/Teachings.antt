@@ -2,14 +2,15 @@
 use Rattle.std.proofs.Common.{◌≡◌, ◌<◌, ◌≤◌, ℕ, Bool, true, false, refl, arith, inl, inr, sym, ap, ◌∙◌, List, [], ◌∷◌, Option, Some, None, subst, cond, ◌&&◌, map}
 use Rattle.std.specs.Prelude.{nat_lt, find, option_map, ◌==◌}
 use Rattle.std.proofs.lemmas.Bool.Decides.{nat_tests}
+use Rattle.std.proofs.lemmas.Bool.{eq-eqb, eqb-true}
 use Rattle.mk_lists.specs.Among.{Among, AllDistinct}
-use Rattle.mk_txn.proofs.ClashFacts.{member-from_list_any, list_any-from_member}
+use Rattle.mk_lists.proofs.Tests.{Among-from_list_any, list_any-from_Among}
+use Rattle.mk_lists.proofs.Members.{Among-map}
 use Rattle.mk_quorum.specs.Slots.{passes}
-use Rattle.mk_merge.specs.Bases.{empty_base}
-use Rattle.mk_epoch.specs.EpochState.{EpochState, MadeBase, made_for, base_for}
+use Rattle.mk_words.specs.Bases.{empty_base}
+use Rattle.mk_model.specs.EpochState.{EpochState, MadeBase, made_for, base_for}
 use Rattle.mk_epoch_laws.specs.Turns.{Always}
 use Rattle.mk_epoch_laws.specs.BaseLaws.{BasesMade}
-use Rattle.mk_merge_laws.proofs.ListLaws.{eqb-tells, eqb-same, Among-map}
 use Rattle.mk_history.specs.Wholes.{last_state}
 use Rattle.mk_history.specs.Teaching.{entered_round, stands_in}
 use Rattle.mk_run_laws.specs.RunEvents.{turns_of}
@@ -18,12 +19,12 @@ use Rattle.mk_run_laws.specs.RunLaws.{TeachingStays, TaughtMeans}
 use Rattle.mk_run_laws.proofs.Lines.{lines_are_turns}
 use Rattle.mk_run_laws.proofs.SameOutcome.{same_agrees}
 
-all_three : (a b d : Bool) → (a && b && d) ≡ true → (a ≡ true) × (b ≡ true) × (d ≡ true)
+pub all_three : (a b d : Bool) → (a && b && d) ≡ true → (a ≡ true) × (b ≡ true) × (d ≡ true)
 all_three true true d e = (refl, refl, e)
 all_three true false d e = absurd (cc e)
 all_three false b d e = absurd (cc e)
 
-entered_by : (o : Option ℕ) (round : ℕ) → passes (λ i. nat_lt i round) o ≡ true → (i : ℕ) × (o ≡ Some i) × (i < round)
+pub entered_by : (o : Option ℕ) (round : ℕ) → passes (λ i. nat_lt i round) o ≡ true → (i : ℕ) × (o ≡ Some i) × (i < round)
 entered_by None round e = absurd (cc e)
 entered_by (Some i) round e = (i, refl, grind (arith, nat_tests, e))
 
@@ -36,15 +37,15 @@ both a b d x (p, q, s) k = grind (arith, p, s, k)
 
 pub teaching_stays : TeachingStays
 teaching_stays run id epoch outcome i j le e =
-    let m = member-from_list_any (teaches run id epoch outcome i) (last_state run).epochs.made e in
+    let m = Among-from_list_any (teaches run id epoch outcome i) (last_state run).epochs.made e in
     let made = m.0 in
     let k = all_three (nat_lt epoch made.epoch) (was_entered run made.epoch i) (is_same_outcome (stands_in made.base made.epoch id) outcome) m.2 in
-    list_any-from_member (teaches run id epoch outcome j) (last_state run).epochs.made made m.1
+    list_any-from_Among (teaches run id epoch outcome j) (last_state run).epochs.made made m.1
     (both (nat_lt epoch made.epoch) (was_entered run made.epoch i) (is_same_outcome (stands_in made.base made.epoch id) outcome) (was_entered run made.epoch j) k
     (later_passes (entered_round run made.epoch) i j le k.1))
 
 -- a base that was made once is found
-found_once : (xs : List MadeBase) → AllDistinct (map (λ (m : MadeBase). m.epoch) xs) → (m : MadeBase) → Among m xs → find (λ (x : MadeBase). x.epoch == m.epoch) xs ≡ Some m
+pub found_once : (xs : List MadeBase) → AllDistinct (map (λ (m : MadeBase). m.epoch) xs) → (m : MadeBase) → Among m xs → find (λ (x : MadeBase). x.epoch == m.epoch) xs ≡ Some m
 found_once [] once m a = absurd a
 found_once (x ∷ xs) once m a = by (x.epoch == m.epoch) refl (found_once xs once.1 m) a
   where
@@ -52,21 +53,21 @@ found_once (x ∷ xs) once m a = by (x.epoch == m.epoch) refl (found_once xs onc
         cond b (Some x) (find (λ (y : MadeBase). y.epoch == m.epoch) xs) ≡ Some m
     by true k again (inl same) = ap Some same
     by true k again (inr a) =
-        absurd (once.0 (subst (λ (n : ℕ). Among n (map (λ (y : MadeBase). y.epoch) xs)) (sym (eqb-tells x.epoch m.epoch k)) (Among-map (λ (y : MadeBase). y.epoch) m xs a)))
-    by false k again (inl same) = absurd (cc (sym k ∙ eqb-same x.epoch m.epoch (ap (λ (y : MadeBase). y.epoch) same)))
+        absurd (once.0 (subst (λ (n : ℕ). Among n (map (λ (y : MadeBase). y.epoch) xs)) (sym (eqb-true x.epoch m.epoch k)) (Among-map (λ (y : MadeBase). y.epoch) m xs a)))
+    by false k again (inl same) = absurd (cc (sym k ∙ eq-eqb x.epoch m.epoch (ap (λ (y : MadeBase). y.epoch) same)))
     by false k again (inr a) = again a
 
-base_there : (state : EpochState) (m : MadeBase) → 0 < m.epoch → made_for m.epoch state ≡ Some m.base → base_for m.epoch state ≡ Some m.base
+pub base_there : (state : EpochState) (m : MadeBase) → 0 < m.epoch → made_for m.epoch state ≡ Some m.base → base_for m.epoch state ≡ Some m.base
 base_there state m up e = by (m.epoch == 0) refl
   where
     by : (b : Bool) → (m.epoch == 0) ≡ b → cond b (Some empty_base) (made_for m.epoch state) ≡ Some m.base
-    by true k = absurd (let first = eqb-tells m.epoch 0 k in omega (arith, first, up))
+    by true k = absurd (let first = eqb-true m.epoch 0 k in omega (arith, first, up))
     by false k = e
 
 pub taught_means : Always BasesMade → TaughtMeans
 taught_means bases run legal attempt outcome round e =
     let last = (last_state run).epochs in
-    let m = member-from_list_any (teaches run attempt.id attempt.epoch outcome round) last.made e in
+    let m = Among-from_list_any (teaches run attempt.id attempt.epoch outcome round) last.made e in
     let made = m.0 in
     let k = all_three (nat_lt attempt.epoch made.epoch) (was_entered run made.epoch round) (is_same_outcome (stands_in made.base made.epoch attempt.id) outcome) m.2 in
     let lines = lines_are_turns run run.rounds legal in

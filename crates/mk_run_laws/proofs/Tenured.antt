@@ -1,18 +1,23 @@
 -- The journal of a tenure replays from the cell of the epoch's base.
 use Rattle.std.proofs.Common.{◌≡◌, ◌<◌, ◌≤◌, ℕ, ◌+◌, Bool, true, false, refl, arith, inl, inr, sym, ap, ◌∙◌, List, [], ◌∷◌, ◌++◌, Option, Some, None, subst, cond, not, ◌||◌, ◌&&◌, map, length}
 use Rattle.std.specs.Prelude.{slice_get, ◌==◌}
+use Rattle.std.proofs.lemmas.Bool.{cases_eq, eq-eqb, eqb-true}
+use Rattle.std.proofs.lemmas.List.{append-nil, append_assoc}
+use Rattle.std.proofs.lemmas.Option.{same_Some}
 use Rattle.mk_lists.specs.Among.{Each, Each-append}
-use Rattle.mk_cell.specs.declared.JournalEntry.{JournalEntry}
-use Rattle.mk_cell.specs.Cells.{CellState, first_cell}
-use Rattle.mk_cell.specs.Journals.{cell_through, EachAnswered}
+use Rattle.mk_lists.proofs.Places.{slice_get-replicate}
+use Rattle.mk_words.proofs.JournalLaws.{EachAnswered-append, cell_through-append}
+use Rattle.mk_epoch_laws.proofs.Turning.{answer_given}
+use Rattle.mk_words.specs.declared.JournalEntry.{JournalEntry}
+use Rattle.mk_words.specs.Cells.{CellState, first_cell}
+use Rattle.mk_words.specs.Journals.{cell_through, EachAnswered}
 use Rattle.mk_quorum.specs.Sizes.{members}
-use Rattle.mk_merge.specs.Bases.{BaseState, empty_base}
-use Rattle.mk_merge.specs.Rebuilding.{rebuilt}
-use Rattle.mk_global.specs.declared.GlobalEntry.{GlobalEntry}
-use Rattle.mk_epoch.specs.EpochState.{EpochState, ReplicaState, first_replica, made_for, base_for}
-use Rattle.mk_epoch.specs.GlobalAnswers.{global_answer, lacks, is_accepted}
-use Rattle.mk_epoch.specs.GlobalSteps.{IsAnswer, global_after, base_or_empty}
-use Rattle.mk_merge_laws.proofs.ListLaws.{same_or_not, append-none, append-later, eqb-tells, eqb-same, some_same}
+use Rattle.mk_words.specs.Bases.{BaseState, empty_base}
+use Rattle.mk_words.specs.Rebuilding.{rebuilt}
+use Rattle.mk_words.specs.declared.GlobalEntry.{GlobalEntry}
+use Rattle.mk_model.specs.EpochState.{EpochState, ReplicaState, first_replica, made_for, base_for}
+use Rattle.mk_model.specs.GlobalAnswers.{global_answer, lacks, is_accepted}
+use Rattle.mk_model.specs.GlobalSteps.{IsAnswer, global_after, base_or_empty}
 use Rattle.mk_column_laws.specs.Moments.{has_number}
 use Rattle.mk_history.specs.declared.RoundLog.{RoundLog}
 use Rattle.mk_history.specs.Histories.{History, journal_of}
@@ -20,9 +25,9 @@ use Rattle.mk_history.specs.Legality.{EachGlobalAnswered, EachRoundLegal}
 use Rattle.mk_history.specs.Wholes.{WholeState, first_state, cell_of, after_logs, after_global, after_line, globals_through, after_round, state_through, handed_in}
 use Rattle.mk_run_laws.specs.RunEvents.{emptied_by}
 use Rattle.mk_run_laws.specs.Tenures.{DatedEntry, dated_at, has_epoch, tenure_from, tenure_of, entries_in, TenuresReplay, AreInOrder, TenuresAscend}
-use Rattle.mk_run_laws.proofs.Standing.{At, Stands, HasIt, IsPast, line_stands, answer_given}
+use Rattle.mk_run_laws.proofs.Standing.{At, Stands, HasIt, IsPast, line_stands}
 use Rattle.mk_run_laws.proofs.Born.{NotIt, line_born, global_made, globals_made, rounds_made}
-use Rattle.mk_run_laws.proofs.Cells.{LineCell, HasCell, has_cell, cell_first, cell_after_logs, cell_through-append, answered-join, line_cell, slice_get-replicate}
+use Rattle.mk_run_laws.proofs.Cells.{LineCell, HasCell, has_cell, cell_first, cell_after_logs, line_cell}
 
 -- ---- lists of entries
 
@@ -45,14 +50,14 @@ part_dated false n journal = refl
 -- ---- whether a replica has the epoch
 
 has_true : (e : ℕ) (x : ReplicaState) → HasIt e x → has_epoch e (Some x) ≡ true
-has_true e x h = let lost = h.1 in let k = eqb-same x.adopted e h.2 in grind (arith, lost, k)
+has_true e x h = let lost = h.1 in let k = eq-eqb x.adopted e h.2 in grind (arith, lost, k)
 
 has_not : (e : ℕ) (x : ReplicaState) → NotIt e x → has_epoch e (Some x) ≡ false
 has_not e x (inl lost) = grind (arith, lost)
 has_not e x (inr apart) = by (x.adopted == e) refl
   where
     by : (b : Bool) → (x.adopted == e) ≡ b → (not (lacks x.phase) && b) ≡ false
-    by true k = absurd (apart (eqb-tells x.adopted e k))
+    by true k = absurd (apart (eqb-true x.adopted e k))
     by false k = grind arith
 
 past_not : (e : ℕ) (x : ReplicaState) → IsPast e x → NotIt e x
@@ -145,7 +150,7 @@ module _ (run : History) (r e key : ℕ) (lt : key < length run.key_names) (base
       absent : (more : List JournalEntry) (x : ReplicaState) → slice_get state.epochs.replicas r ≡ Some x → NotIt e x → journal ++ part (has_epoch e (slice_get state.epochs.replicas r)) more ≡ journal
       absent more x at h =
           ap (λ (o : Option ReplicaState). journal ++ part (has_epoch e o) more) at
-          ∙ ap (λ (b : Bool). journal ++ part b more) (has_not e x h) ∙ append-none journal
+          ∙ ap (λ (b : Bool). journal ++ part b more) (has_not e x h) ∙ append-nil journal
 
       done : (t : List JournalEntry) → EachAnswered opening t → Tenured (after_logs run round state) (cell_through k.cell (journal_of round r key)) t → Kept (after_logs run round state) t
       done t answered tenured =
@@ -161,13 +166,13 @@ module _ (run : History) (r e key : ℕ) (lt : key < length run.key_names) (base
           ap (λ (o : Option ReplicaState). part (has_epoch e o) more) at ∙ ap (λ (b : Bool). part b more) (has_true e x h) in
           let answers = subst (λ (c : CellState). EachAnswered c (journal_of round r key)) (has_cell state r key k.cell k.has ∙ same) replays in
           subst (λ (t : List JournalEntry). Kept (after_logs run round state) (journal ++ t)) (is ∙ sym there)
-          (done (journal ++ journal_of round r key) (answered-join opening journal (journal_of round r key) k.answered answers)
+          (done (journal ++ journal_of round r key) (EachAnswered-append opening journal (journal_of round r key) k.answered answers)
           (Now (x, at, h) (ap (λ (c : CellState). cell_through c (journal_of round r key)) same ∙ sym (cell_through-append opening journal (journal_of round r key)))))
 
   kept_rounds : r < members run.faults → (rounds : List RoundLog) (n : ℕ) (state : WholeState) (journal : List JournalEntry) → EachRoundLegal run state rounds →
       Fits (state_through run state rounds).epochs → Kept state journal →
       Kept (state_through run state rounds) (journal ++ entries_in (tenure_from r e key n run state rounds))
-  kept_rounds rlt [] n state journal legal fits k = subst (Kept state) (sym (append-none journal)) k
+  kept_rounds rlt [] n state journal legal fits k = subst (Kept state) (sym (append-nil journal)) k
   kept_rounds rlt (round ∷ rounds) n state journal legal fits k =
       let here = has_epoch e (slice_get state.epochs.replicas r) in
       let more = journal_of round r key in
@@ -178,7 +183,7 @@ module _ (run : History) (r e key : ℕ) (lt : key < length run.key_names) (base
       let ended : Kept next (journal ++ part here more) = record { cell = lines.cell; has = lines.has; answered = lines.answered; tenured = same_epochs lines.cell (journal ++ part here more) lines.tenured } in
       let later = tenure_from r e key (n + 1) run next rounds in
       let split = entries_in-append (cond here (map (dated_at n) more) []) later ∙ ap (λ (es : List JournalEntry). es ++ entries_in later) (part_dated here n more) in
-      subst (Kept (state_through run next rounds)) (append-later journal (part here more) (entries_in later) ∙ ap (λ (es : List JournalEntry). journal ++ es) (sym split))
+      subst (Kept (state_through run next rounds)) (append_assoc journal (part here more) (entries_in later) ∙ ap (λ (es : List JournalEntry). journal ++ es) (sym split))
       (kept_rounds rlt rounds (n + 1) next (journal ++ part here more) legal.1 fits ended)
     where
       same_epochs : (cell : CellState) (t : List JournalEntry) → Tenured (globals_through run (after_logs run round state) round.globals) cell t → Tenured (after_round run round state) cell t
@@ -195,19 +200,19 @@ first_kept run r e key rlt lt base first =
 
     by : (b : Bool) → (e == 0) ≡ b → Tenured run r e key lt base (first_state run) first_cell []
     by true k =
-        let zero = eqb-tells e 0 k in
+        let zero = eqb-true e 0 k in
         Now (first_replica, at, (omega (arith, zero), refl, sym zero)) (ap (λ (b : BaseState). rebuilt b key) (sym (first zero)))
-    by false k = Never (let apart : (e ≡ 0 → ⊥) = (λ same. absurd (cc (sym k ∙ eqb-same e 0 same))) in positive e apart) (first_replica, at, inr (λ same. absurd (cc (sym k ∙ eqb-same e 0 (sym same))))) refl
+    by false k = Never (let apart : (e ≡ 0 → ⊥) = (λ same. absurd (cc (sym k ∙ eq-eqb e 0 same))) in positive e apart) (first_replica, at, inr (λ same. absurd (cc (sym k ∙ eq-eqb e 0 (sym same))))) refl
       where
         positive : (n : ℕ) → (n ≡ 0 → ⊥) → 0 < n
-        positive n apart = elim (same_or_not n 0) [ inl same ↦ absurd (apart same) | inr other ↦ grind (arith, other) ]
+        positive n apart = elim (cases_eq n 0) [ inl same ↦ absurd (apart same) | inr other ↦ grind (arith, other) ]
 
 made_or_first : (e : ℕ) (state : EpochState) (base : BaseState) → base_for e state ≡ Some base → (0 < e → (b : BaseState) → made_for e state ≡ Some b → b ≡ base) × (e ≡ 0 → base ≡ empty_base)
 made_or_first e state base is = by (e == 0) refl is
   where
     by : (b : Bool) → (e == 0) ≡ b → cond b (Some empty_base) (made_for e state) ≡ Some base → (0 < e → (b : BaseState) → made_for e state ≡ Some b → b ≡ base) × (e ≡ 0 → base ≡ empty_base)
-    by true k is = (λ up b made. absurd (let zero = eqb-tells e 0 k in omega (arith, zero, up)), λ zero. some_same base empty_base (sym is))
-    by false k is = (λ up b made. some_same b base (sym made ∙ is), λ zero. absurd (cc (sym k ∙ eqb-same e 0 zero)))
+    by true k is = (λ up b made. absurd (let zero = eqb-true e 0 k in omega (arith, zero, up)), λ zero. same_Some base empty_base (sym is))
+    by false k is = (λ up b made. same_Some b base (sym made ∙ is), λ zero. absurd (cc (sym k ∙ eq-eqb e 0 zero)))
 
 replayed_cell : (run : History) (r e key : ℕ) (lt : key < length run.key_names) (base : BaseState) (last : WholeState) (cell : CellState) (journal : List JournalEntry) →
     Tenured run r e key lt base last cell journal → has_epoch e (slice_get last.epochs.replicas r) ≡ true → cell ≡ cell_through (rebuilt base key) journal

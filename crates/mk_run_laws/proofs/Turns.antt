@@ -1,15 +1,15 @@
 -- The key steps of a log and the entries of a journal, as acts with answers.
 use Rattle.std.proofs.Common.{◌≡◌, ◌⊎◌, ℕ, Bool, true, false, refl, arith, inl, inr, sym, ap, ◌∙◌, List, [], ◌∷◌, subst, cond, ◌&&◌, map}
 use Rattle.std.specs.Prelude.{slice_get, ◌==◌}
+use Rattle.std.proofs.lemmas.Bool.{and_parts, eq-eqb, eqb-true}
 use Rattle.mk_lists.specs.Among.{Among, Among-append, Among-append_left, Among-append_right}
-use Rattle.mk_cell.specs.declared.JournalEntry.{JournalEntry}
-use Rattle.mk_cell.specs.declared.Answer.{Answer}
-use Rattle.mk_column.specs.declared.KeyCall.{KeyCall}
-use Rattle.mk_column.specs.declared.Step.{Step}
-use Rattle.mk_column.specs.declared.Step.TheVariants.{Begin, Unread, Read, Stamp, Validate, Take, Key, Rule, Again, Takeover, Pick, Stop}
-use Rattle.mk_column.specs.ColumnState.{Setting}
-use Rattle.mk_column.specs.Steps.{epoch_of}
-use Rattle.mk_merge_laws.proofs.ListLaws.{eqb-tells, eqb-same, both_true}
+use Rattle.mk_words.specs.declared.JournalEntry.{JournalEntry}
+use Rattle.mk_words.specs.declared.Answer.{Answer}
+use Rattle.mk_words.specs.declared.KeyCall.{KeyCall}
+use Rattle.mk_words.specs.declared.Step.{Step}
+use Rattle.mk_words.specs.declared.Step.TheVariants.{Begin, Unread, Read, Stamp, Validate, Take, Key, Rule, Again, Takeover, Pick, Stop}
+use Rattle.mk_model.specs.ColumnState.{Setting}
+use Rattle.mk_model.specs.Steps.{epoch_of}
 use Rattle.mk_column_laws.specs.Moments.{Moment, PastAct, Event, act_of, after_event, moment_through, step_done}
 use Rattle.mk_column_laws.specs.Moments.Event.{NewRound, Doing}
 use Rattle.mk_history.specs.Matching.{Turn, turns_in_log, turns_in_journal}
@@ -33,7 +33,7 @@ entry_turn c entry (x ∷ journal) a e = by (x.seat == c) refl (entry_turn c ent
         Among (turn_of_entry entry) (cond b (turn_of_entry x ∷ turns_in_journal c journal) (turns_in_journal c journal))
     by true k again (inl same) = inl (ap turn_of_entry same)
     by true k again (inr a) = inr (again a e)
-    by false k again (inl same) = absurd (cc (sym k ∙ eqb-same x.seat c (ap (λ (y : JournalEntry). y.seat) same ∙ e)))
+    by false k again (inl same) = absurd (cc (sym k ∙ eq-eqb x.seat c (ap (λ (y : JournalEntry). y.seat) same ∙ e)))
     by false k again (inr a) = again a e
 
 pub turn_entry : (c : ℕ) (t : Turn) (journal : List JournalEntry) → Among t (turns_in_journal c journal) → (entry : JournalEntry) × Among entry journal × (entry.seat ≡ c) × (turn_of_entry entry ≡ t)
@@ -43,7 +43,7 @@ turn_entry c t (x ∷ journal) a = by (x.seat == c) refl (turn_entry c t journal
     by : (b : Bool) → (x.seat == c) ≡ b → (Among t (turns_in_journal c journal) → (entry : JournalEntry) × Among entry journal × (entry.seat ≡ c) × (turn_of_entry entry ≡ t)) →
         Among t (cond b (turn_of_entry x ∷ turns_in_journal c journal) (turns_in_journal c journal)) →
         (entry : JournalEntry) × Among entry (x ∷ journal) × (entry.seat ≡ c) × (turn_of_entry entry ≡ t)
-    by true k again (inl same) = (x, inl refl, eqb-tells x.seat c k, same)
+    by true k again (inl same) = (x, inl refl, eqb-true x.seat c k, same)
     by true k again (inr a) = let f = again a in (f.0, inr f.1, f.2, f.3)
     by false k again a = let f = again a in (f.0, inr f.1, f.2, f.3)
 
@@ -58,7 +58,7 @@ first_turn r key t (Key call answer) log a = by (call.replica == r && call.key =
   where
     by : (b : Bool) → (call.replica == r && call.key == key) ≡ b → Among t (cond b (turn call answer ∷ turns_in_log r key log) (turns_in_log r key log)) →
         IsTurnOf r key t (Key call answer) ⊎ Among t (turns_in_log r key log)
-    by true k (inl same) = let both = both_true (call.replica == r) (call.key == key) k in inl (call, (answer, (refl, eqb-tells call.replica r both.0, eqb-tells call.key key both.1, same)))
+    by true k (inl same) = let both = and_parts (call.replica == r) (call.key == key) k in inl (call, (answer, (refl, eqb-true call.replica r both.0, eqb-true call.key key both.1, same)))
     by true k (inr a) = inr a
     by false k a = inr a
 first_turn r key t (Begin client replica) log a = inr a
@@ -99,7 +99,7 @@ step_turn round now act (Key call answer) log (inl same) = subst IsThere same (r
     IsThere x = (x.round ≡ now) × Among (turn_of_act x) (turns_in_log x.replica x.key (Key call answer ∷ log))
 
     here : Among (turn call answer) (cond (call.replica == call.replica && call.key == call.key) (turn call answer ∷ turns_in_log call.replica call.key log) (turns_in_log call.replica call.key log))
-    here = by (call.replica == call.replica && call.key == call.key) (let p = eqb-same call.replica call.replica refl in let q = eqb-same call.key call.key refl in grind (arith, p, q))
+    here = by (call.replica == call.replica && call.key == call.key) (let p = eq-eqb call.replica call.replica refl in let q = eq-eqb call.key call.key refl in grind (arith, p, q))
       where
         by : (b : Bool) → b ≡ true → Among (turn call answer) (cond b (turn call answer ∷ turns_in_log call.replica call.key log) (turns_in_log call.replica call.key log))
         by true k = inl refl

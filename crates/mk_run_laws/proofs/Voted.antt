@@ -1,6 +1,9 @@
 -- Of two attempts that clash, for both of which a replica voted Ok, one was finished there with Abort.
 use Rattle.std.proofs.Common.{◌≡◌, ◌⊎◌, ◌<◌, ℕ, true, refl, arith, inl, inr, sym, ap, ◌∙◌, List, [], ◌∷◌, ◌++◌, Some, subst, map}
+use Rattle.std.proofs.lemmas.List.{append_assoc}
 use Rattle.mk_lists.specs.Among.{Among, Each, Among-append_left, Among-append_right}
+use Rattle.mk_lists.proofs.Members.{Among-map}
+use Rattle.mk_lists.proofs.EachMember.{Each-append_left}
 use Rattle.mk_txn.specs.declared.TxnId.{TxnId}
 use Rattle.mk_txn.specs.declared.Stamp.{Stamp}
 use Rattle.mk_txn.specs.declared.ReadItem.{ReadItem}
@@ -8,35 +11,34 @@ use Rattle.mk_txn.specs.declared.WriteItem.{WriteItem}
 use Rattle.mk_txn.specs.Transactions.{Transaction}
 use Rattle.mk_txn.specs.Clashes.{Clash}
 use Rattle.mk_txn.proofs.StampOrder.{test-from_Before}
-use Rattle.mk_cell.specs.declared.Act.{Act}
-use Rattle.mk_cell.specs.declared.Act.TheVariants.{CheckRead, CheckWrite, ReleaseRead, ReleaseWrite}
-use Rattle.mk_cell.specs.declared.Answer.TheVariants.{Okay}
-use Rattle.mk_valid.specs.Checks.{checks}
-use Rattle.mk_merge_laws.proofs.ListLaws.{Among-map, append-later}
+use Rattle.mk_words.specs.declared.Act.{Act}
+use Rattle.mk_words.specs.declared.Act.TheVariants.{CheckRead, CheckWrite, ReleaseRead, ReleaseWrite}
+use Rattle.mk_words.specs.declared.Answer.TheVariants.{Okay}
+use Rattle.mk_words.specs.Checks.{checks}
 use Rattle.mk_column_laws.specs.Moments.{Moment, PastAct, PastEntry, Event}
 use Rattle.mk_column_laws.specs.Moments.Event.{NewRound, Doing}
 use Rattle.mk_column_laws.specs.KeyActs.{ActOrigin, act_at}
 use Rattle.mk_column_laws.specs.KeyActs.ActOrigin.{OfRead, OfCheck, OfRelease, OfCommit}
 use Rattle.mk_column_laws.specs.ActLaws.{Releases, ChecksFor, StampReleased}
-use Rattle.mk_column_laws.proofs.ActStamps.{checks_shape, releases_shape, commits_shape, release_is_no_check, release_is_no_commit, read_is_none}
+use Rattle.mk_column_laws.proofs.ActStamps.{checks_shape, releases_shape, commits_shape, release_is_no_check, release_is_no_commit, read_is_none, same_release}
 use Rattle.mk_history.specs.declared.RoundLog.{RoundLog}
 use Rattle.mk_history.specs.Histories.{History, clients_of, log_of}
 use Rattle.mk_history.specs.Shape.{HasShape, IsRoundShape}
 use Rattle.mk_history.specs.Legality.{IsLegal, EachRoundLegal}
 use Rattle.mk_history.specs.Wholes.{WholeState, first_state, after_round}
-use Rattle.mk_epoch.specs.EpochState.{views_of}
+use Rattle.mk_model.specs.EpochState.{views_of}
 use Rattle.mk_run_laws.specs.RunEvents.{emptied_in, events_from, events_of, start_of, moment_of, IsMomentOf}
 use Rattle.mk_run_laws.specs.TaughtIn.{taught_in}
 use Rattle.mk_run_laws.specs.RunLaws.{TeachingStays, RunsReachMoments, FactsInRuns, ActsInRuns, IdsInRuns}
 use Rattle.mk_run_laws.specs.Tenures.{tenure_of, act_in, IsIn, IsInBy, TenuresMatch, ClashesGiveUp}
 use Rattle.mk_run_laws.specs.Voting.{VotedOk, IsAbortedBy, ClashingVotes}
 use Rattle.mk_run_laws.proofs.Lines.{legal-first}
-use Rattle.mk_run_laws.proofs.Ranges.{InRange, act_in_range, seat_in_range, each_first}
+use Rattle.mk_run_laws.proofs.Ranges.{InRange, act_in_range, seat_in_range}
 use Rattle.mk_run_laws.proofs.ClientNumbers.{one_column}
 use Rattle.mk_run_laws.proofs.StampColumns.{client_there}
 
 -- the events of the first rounds are the first events
-events_split : (c : ℕ) (run : History) (done later : List RoundLog) (state : WholeState) (emptied : List ℕ) →
+pub events_split : (c : ℕ) (run : History) (done later : List RoundLog) (state : WholeState) (emptied : List ℕ) →
     (more : List Event) × (events_from c run state emptied done ++ more ≡ events_from c run state emptied (done ++ later))
 events_split c run [] later state emptied = (events_from c run state emptied later, refl)
 events_split c run (round ∷ done) later state emptied =
@@ -44,10 +46,10 @@ events_split c run (round ∷ done) later state emptied =
     let log = map Doing (log_of round c) in (
       k.0,
       ap (λ (es : List Event). NewRound (views_of state.epochs) emptied ∷ es)
-          (append-later log (events_from c run (after_round run round state) (emptied_in round.globals) done) k.0 ∙ ap (λ (es : List Event). log ++ es) k.1),
+          (append_assoc log (events_from c run (after_round run round state) (emptied_in round.globals) done) k.0 ∙ ap (λ (es : List Event). log ++ es) k.1),
     )
 
-is_moment : (run : History) (done later : List RoundLog) → run.rounds ≡ done ++ later → (c : ℕ) → IsMomentOf run c (moment_of run c done)
+pub is_moment : (run : History) (done later : List RoundLog) → run.rounds ≡ done ++ later → (c : ℕ) → IsMomentOf run c (moment_of run c done)
 is_moment run done later split c =
     let k = events_split c run done later (first_state run) [] in
     record { events = events_of run c done; later = k.0; whole = k.1 ∙ ap (events_of run c) (sym split); leads = refl }
@@ -60,12 +62,6 @@ served_of_check m act s (OfCheck x e there at served among) chk = served
 served_of_check m act s (OfRelease x e there at served among reason) chk = served
 served_of_check m act s (OfCommit x e i there at served among last early) chk = served
 
-same_release : (s t : Stamp) (act : Act) → Releases s act → Releases t act → s ≡ t
-same_release s t act (inl e) (inl f) = let k : ReleaseRead s ≡ ReleaseRead t = sym e ∙ f in cc k
-same_release s t act (inl e) (inr f) = absurd (cc (e, f))
-same_release s t act (inr e) (inl f) = absurd (cc (e, f))
-same_release s t act (inr e) (inr f) = let k : ReleaseWrite s ≡ ReleaseWrite t = sym e ∙ f in cc k
-
 -- a release is of an entry with its stamp
 entry_of_release : (m : Moment) (act : PastAct) (s : Stamp) → ActOrigin m act → Releases s act.act → (id : TxnId) × ((entry : PastEntry) × ((m.past.entries act.replica id ≡ Some entry) × (entry.txn.stamp ≡ s)))
 entry_of_release m act s (OfRead g) rel = absurd ((read_is_none act.act g).0.0 s rel)
@@ -74,12 +70,12 @@ entry_of_release m act s (OfCommit x e i there at served among last early) rel =
 entry_of_release m act s (OfRelease x e there at served among reason) rel =
     (x, (e, (there, same_release e.txn.stamp s act.act (releases_shape e.txn (act.key, act.act) among) rel)))
 
-read_check : (txn : Transaction) (item : ReadItem) → Among item txn.reads → Among (item.key, CheckRead txn.stamp item.version) (checks txn)
+pub read_check : (txn : Transaction) (item : ReadItem) → Among item txn.reads → Among (item.key, CheckRead txn.stamp item.version) (checks txn)
 read_check txn item a =
     Among-append_left (item.key, CheckRead txn.stamp item.version) (map (λ (i : ReadItem). (i.key, CheckRead txn.stamp i.version)) txn.reads) (map (λ (i : WriteItem). (i.key, CheckWrite txn.stamp)) txn.writes)
     (Among-map (λ (i : ReadItem). (i.key, CheckRead txn.stamp i.version)) item txn.reads a)
 
-write_check : (txn : Transaction) (item : WriteItem) → Among item txn.writes → Among (item.key, CheckWrite txn.stamp) (checks txn)
+pub write_check : (txn : Transaction) (item : WriteItem) → Among item txn.writes → Among (item.key, CheckWrite txn.stamp) (checks txn)
 write_check txn item a =
     Among-append_right (item.key, CheckWrite txn.stamp) (map (λ (i : ReadItem). (i.key, CheckRead txn.stamp i.version)) txn.reads) (map (λ (i : WriteItem). (i.key, CheckWrite txn.stamp)) txn.writes)
     (Among-map (λ (i : WriteItem). (i.key, CheckWrite txn.stamp)) item txn.writes a)
@@ -90,7 +86,7 @@ module _ (stays : TeachingStays) (reach : RunsReachMoments) (facts : FactsInRuns
   legal_done = legal-first run (first_state run) done later (subst (EachRoundLegal run (first_state run)) split legal)
 
   shape_done : Each (IsRoundShape run) done
-  shape_done = each_first (IsRoundShape run) done later (subst (Each (IsRoundShape run)) split shape.rounds)
+  shape_done = Each-append_left (IsRoundShape run) done later (subst (Each (IsRoundShape run)) split shape.rounds)
 
   abbrev then : ℕ → Moment
   then c = moment_of run c done

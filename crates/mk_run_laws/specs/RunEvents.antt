@@ -1,12 +1,12 @@
 -- A run as the events of each of its columns, and as turns of global lines.
 use Rattle.std.specs.Prelude.{◌≡◌, ℕ, List, [], ◌∷◌, ◌++◌, length, map, if◌then◌else◌}
-use Rattle.mk_global.specs.declared.GlobalEntry.{GlobalEntry}
-use Rattle.mk_global.specs.declared.GlobalLine.{GlobalLine}
-use Rattle.mk_global.specs.declared.GlobalLine.TheVariants.{Wipe, Ask, Promise, Merge, Adopt, Enter}
+use Rattle.mk_words.specs.declared.GlobalEntry.{GlobalEntry}
+use Rattle.mk_words.specs.declared.GlobalLine.{GlobalLine}
+use Rattle.mk_words.specs.declared.GlobalLine.TheVariants.{Wipe, Ask, Promise, Merge, Adopt, Enter}
 use Rattle.mk_column_laws.specs.Moments.{Moment, Event, first_moment, moment_through}
 use Rattle.mk_column_laws.specs.Moments.Event.{NewRound, Doing}
-use Rattle.mk_epoch.specs.EpochState.{views_of}
-use Rattle.mk_epoch.specs.GlobalAnswers.{is_accepted}
+use Rattle.mk_model.specs.EpochState.{views_of}
+use Rattle.mk_model.specs.GlobalAnswers.{is_accepted}
 use Rattle.mk_epoch_laws.specs.Turns.{GlobalTurn}
 use Rattle.mk_history.specs.declared.RoundLog.{RoundLog}
 use Rattle.mk_history.specs.Histories.{History, clients_of, log_of}

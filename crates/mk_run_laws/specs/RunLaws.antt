@@ -4,17 +4,17 @@ use Rattle.mk_txn.specs.declared.TxnId.{TxnId}
 use Rattle.mk_txn.specs.declared.Outcome.{Outcome}
 use Rattle.mk_txn.specs.Outcomes.{agrees}
 use Rattle.mk_txn.specs.Transactions.{Transaction}
-use Rattle.mk_epoch.specs.EpochState.{first_epochs}
+use Rattle.mk_model.specs.EpochState.{first_epochs}
 use Rattle.mk_epoch_laws.specs.Turns.{after_turns, EachAnswered}
 use Rattle.mk_column_laws.specs.Moments.{Moment, Taught, StaysTaught, IsReached, replicas_reset}
-use Rattle.mk_column.specs.ColumnState.{AttemptState, attempt_of}
-use Rattle.mk_column.specs.Deciding.{IsDecided}
+use Rattle.mk_model.specs.ColumnState.{AttemptState, attempt_of}
+use Rattle.mk_model.specs.Deciding.{IsDecided}
 use Rattle.mk_column_laws.specs.Facts.{Facts}
 use Rattle.mk_column_laws.specs.Laws.{BackingOf}
 use Rattle.mk_column_laws.specs.Identity.{Identity}
 use Rattle.mk_column_laws.specs.KeyActs.{ActFacts}
 use Rattle.mk_column_laws.specs.Reading.{ReadFacts}
-use Rattle.mk_global.specs.declared.GlobalEntry.{GlobalEntry}
+use Rattle.mk_words.specs.declared.GlobalEntry.{GlobalEntry}
 use Rattle.mk_history.specs.declared.RoundLog.{RoundLog}
 use Rattle.mk_history.specs.Histories.{History}
 use Rattle.mk_history.specs.Wholes.{first_state, setting_of, column_of, after_logs, globals_through, state_through}

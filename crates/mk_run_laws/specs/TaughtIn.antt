@@ -11,7 +11,7 @@ use Rattle.mk_txn.specs.declared.Cause.TheVariants.{Conflict as ByConflict, Take
 use Rattle.mk_txn.specs.declared.Outcome.{Outcome}
 use Rattle.mk_txn.specs.declared.Outcome.TheVariants.{Commit, Abort}
 use Rattle.mk_quorum.specs.Slots.{passes}
-use Rattle.mk_epoch.specs.EpochState.{MadeBase}
+use Rattle.mk_model.specs.EpochState.{MadeBase}
 use Rattle.mk_column_laws.specs.Moments.{Taught}
 use Rattle.mk_history.specs.Histories.{History}
 use Rattle.mk_history.specs.Wholes.{last_state}

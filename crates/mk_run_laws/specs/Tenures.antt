@@ -3,17 +3,17 @@ use Rattle.std.specs.Prelude.{◌≡◌, ◌⊎◌, ◌<◌, ◌≤◌, ℕ, ◌
 use Rattle.mk_lists.specs.Among.{Among, Each}
 use Rattle.mk_txn.specs.declared.Stamp.{Stamp}
 use Rattle.mk_txn.specs.Stamps.{is_before}
-use Rattle.mk_cell.specs.declared.Act.{Act}
-use Rattle.mk_cell.specs.declared.Act.TheVariants.{CheckRead, CheckWrite, ReleaseRead, ReleaseWrite}
-use Rattle.mk_cell.specs.declared.Answer.{Answer}
-use Rattle.mk_cell.specs.declared.Answer.TheVariants.{Okay}
-use Rattle.mk_cell.specs.declared.JournalEntry.{JournalEntry}
-use Rattle.mk_cell.specs.Journals.{cell_through, EachAnswered}
+use Rattle.mk_words.specs.declared.Act.{Act}
+use Rattle.mk_words.specs.declared.Act.TheVariants.{CheckRead, CheckWrite, ReleaseRead, ReleaseWrite}
+use Rattle.mk_words.specs.declared.Answer.{Answer}
+use Rattle.mk_words.specs.declared.Answer.TheVariants.{Okay}
+use Rattle.mk_words.specs.declared.JournalEntry.{JournalEntry}
+use Rattle.mk_words.specs.Journals.{cell_through, EachAnswered}
 use Rattle.mk_quorum.specs.Sizes.{members}
-use Rattle.mk_merge.specs.Bases.{BaseState}
-use Rattle.mk_merge.specs.Rebuilding.{rebuilt}
-use Rattle.mk_epoch.specs.EpochState.{ReplicaState, base_for}
-use Rattle.mk_epoch.specs.GlobalAnswers.{lacks}
+use Rattle.mk_words.specs.Bases.{BaseState}
+use Rattle.mk_words.specs.Rebuilding.{rebuilt}
+use Rattle.mk_model.specs.EpochState.{ReplicaState, base_for}
+use Rattle.mk_model.specs.GlobalAnswers.{lacks}
 use Rattle.mk_column_laws.specs.Moments.{PastAct}
 use Rattle.mk_history.specs.declared.RoundLog.{RoundLog}
 use Rattle.mk_history.specs.Histories.{History, journal_of}

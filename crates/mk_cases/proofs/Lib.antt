@@ -1,0 +1,4 @@
+pub mod Tried
+pub mod TwoBases
+pub mod ClashingCommits
+pub mod WholeLife

@@ -1,0 +1,13 @@
+pub mod Shapes
+pub mod ReactionShapes
+pub mod StepShapes
+pub mod Always
+pub mod Distinct
+pub mod Records
+pub mod AttemptLists
+pub mod Listings
+pub mod Causes
+pub mod Marks
+pub mod Begun
+pub mod CommitsDone
+pub mod FirstHand
