@@ -5,7 +5,7 @@ use Rattle.mk_txn.specs.declared.Stamp.{Stamp}
 use Rattle.mk_txn.specs.Stamps.{is_before, same_stamp}
 use Rattle.mk_txn.proofs.StampOrder.{same_stamp-tells, is_before-itself, is_before-through, is_before-not_back}
 use Rattle.mk_lists.specs.Among.{Each}
-use Rattle.mk_cell.specs.Pending.{joined, without, has_stamp, IsAscending, least_below, least_above}
+use Rattle.mk_words.specs.Pending.{joined, without, has_stamp, IsAscending, least_below, least_above}
 use Rattle.mk_cell.specs.Searching.{place_above}
 
 some_is : (x y : Stamp) → Some x ≡ Some y → x ≡ y

@@ -24,6 +24,3 @@ AreHalved-again start now later size size' count l p e h digits d =
     let was = h digits d in
     let next = halved start now size size' digits was.left p e was.counted was.few in
     record { left = next.left; counted = omega (arith, l, next.counted); few = next.few }
-
-pub AreHalved-bound : (start now size count digits : ℕ) → AreHalved start now size count → HasDigits count digits → now ≤ start + digits
-AreHalved-bound start now size count digits h d = let was = h digits d in omega (arith, was.counted)

@@ -1,7 +1,7 @@
 //! The cell of a key at a replica.
 ghost use Rattle.std.specs.Prelude.{◌≡◌, ℕ, ◌+◌, ◌*◌, ◌<◌, ◌≤◌, true, length, OnOk};
-ghost use Rattle.mk_cell.specs.Acts.{is_check};
-ghost use Rattle.mk_cell.specs.Cells.{first_cell, settled_cell, cell_answer, cell_after};
+ghost use Rattle.mk_words.specs.Acts.{is_check};
+ghost use Rattle.mk_words.specs.Cells.{first_cell, settled_cell, cell_answer, cell_after};
 ghost use Rattle.mk_cell.specs.Searching.{HasDigits};
 
 use crate::{Act, Answer, Pending, Steps};
@@ -11,7 +11,7 @@ use std::marker::{Brand, Model};
 use std::sync::ledger::{Blank, Ledger};
 
 /// The value of a key with its version, the greatest stamp of a committed read, and the pending stamps.
-#[derive(Drop, Debug)]
+#[derive(Drop)]
 pub struct Cell {
     value: Value,
     wts: Stamp,
@@ -22,7 +22,7 @@ pub struct Cell {
 
 impl Model for Cell {
     ghost use Rattle.std.specs.Prelude.{min};
-    ghost use Rattle.mk_cell.specs.Cells.{CellState, CellView};
+    ghost use Rattle.mk_words.specs.Cells.{CellState, CellView};
 
     ghost Value = { CellView };
 

@@ -1,6 +1,6 @@
 //! The pending stamps of a cell.
 ghost use Rattle.std.specs.Prelude.{◌≡◌, ℕ, ◌+◌, ◌<◌, ◌≤◌, [], length, OnOk, IfOk, IfErr, insert, remove};
-ghost use Rattle.mk_cell.specs.Pending.{joined, without, least_below as least_before, least_above as least_after};
+ghost use Rattle.mk_words.specs.Pending.{joined, without, least_below as least_before, least_above as least_after};
 ghost use Rattle.mk_cell.specs.Searching.{HasDigits};
 
 use crate::{Places, Steps, first_above};
@@ -10,14 +10,14 @@ use std::marker::Model;
 use std::sync::ledger::Ledger;
 
 /// Stamps in ascending order, each at most once.
-#[derive(Drop, Debug)]
+#[derive(Drop)]
 pub struct Pending {
     stamps: Vec<Stamp>,
 }
 
 impl Model for Pending {
     ghost use Rattle.std.specs.Prelude.{◌-◌, vec_len, vec_capacity};
-    ghost use Rattle.mk_cell.specs.Pending.{PendingView, IsAscending};
+    ghost use Rattle.mk_words.specs.Pending.{PendingView, IsAscending};
 
     ghost Value = { PendingView };
 

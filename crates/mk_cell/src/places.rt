@@ -1,7 +1,7 @@
 //! Stamps in ascending order, and the search among them.
 ghost use Rattle.std.specs.Prelude.{◌≡◌, ℕ, ◌+◌, ◌<◌, ◌≤◌, ◌^◌, List, length, Some, slice_get};
 ghost use Rattle.mk_txn.specs.declared.Stamp.{Stamp};
-ghost use Rattle.mk_cell.specs.Pending.{IsAscending};
+ghost use Rattle.mk_words.specs.Pending.{IsAscending};
 ghost use Rattle.mk_cell.specs.Searching.{place_above, HasDigits};
 
 use crate::Steps;

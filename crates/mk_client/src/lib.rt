@@ -3,7 +3,5 @@
 
 mod attempt;
 mod buffer;
-#[cfg(test)]
-mod tests;
 
 pub use attempt::{ClientTxn, computed_writes, next_wanted};

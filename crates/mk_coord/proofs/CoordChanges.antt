@@ -5,8 +5,8 @@ use Rattle.mk_txn.specs.declared.Vote.{Vote}
 use Rattle.mk_txn.specs.declared.Outcome.{Outcome}
 use Rattle.mk_quorum.specs.Sizes.{members}
 use Rattle.mk_quorum.specs.Slots.{filled, empty_slots}
-use Rattle.mk_coord.specs.Rulings.{seen_coord, new_coord, vote_counted, accept_counted}
-use Rattle.mk_coord.proofs.SlotLists.{filled-take, empty-take}
+use Rattle.mk_words.specs.Rulings.{seen_coord, new_coord, vote_counted, accept_counted}
+use Rattle.mk_quorum.proofs.SlotLists.{filled-take, empty-take}
 
 pub voted : (f : ℕ) (votes new : List (Option Vote)) (accepts : List (Option Bool)) (proposed learned : Option Outcome) (r : ℕ) (vote : Vote) →
     r < members f → new ≡ filled votes r vote →

@@ -1,4 +1,2 @@
-pub mod SlotLists
 pub mod CoordChanges
 pub mod RulingCases
-mod RulingRows

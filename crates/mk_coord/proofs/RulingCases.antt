@@ -8,9 +8,9 @@ use Rattle.mk_txn.specs.declared.Outcome.TheVariants.{Commit}
 use Rattle.mk_txn.specs.Outcomes.{is_ok_vote}
 use Rattle.mk_quorum.specs.Sizes.{members, majority_of, fast_of}
 use Rattle.mk_quorum.specs.Slots.{passes}
-use Rattle.mk_coord.specs.declared.Ruling.TheVariants.{Fast, Propose, Learned, Short, Unaccepted}
-use Rattle.mk_coord.specs.Rulings.{by_votes, by_accepts, first_refusal, is_abort_vote, any_vote}
-use Rattle.mk_coord.proofs.SlotLists.{slots_counted}
+use Rattle.mk_words.specs.declared.Ruling.TheVariants.{Fast, Propose, Learned, Short, Unaccepted}
+use Rattle.mk_words.specs.Rulings.{by_votes, by_accepts, first_refusal, is_abort_vote, any_vote}
+use Rattle.mk_quorum.proofs.SlotLists.{slots_counted}
 
 pub fast_commit : (f : ℕ) (votes : List (Option Vote)) → length votes ≡ members f →
     fast_of f ≤ count_by (passes is_ok_vote) votes → by_votes f votes ≡ Fast Commit

@@ -1,2 +1,1 @@
 -- The own coordinator of an attempt.
-pub mod Rulings

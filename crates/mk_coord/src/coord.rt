@@ -1,18 +1,17 @@
 //! The own coordinator of an attempt, which works at view 0.
 ghost use Rattle.std.specs.Prelude.{◌≡◌, ◌<◌, Some, length};
 ghost use Rattle.mk_quorum.specs.Sizes.{members};
-ghost use Rattle.mk_coord.specs.declared.Ruling.TheVariants.{Propose};
-ghost use Rattle.mk_coord.specs.Rulings.{new_coord, vote_counted, accept_counted, coord_proposed, coord_taught, ruling, by_votes as votes_ruling, by_accepts as accepts_ruling};
+ghost use Rattle.mk_words.specs.declared.Ruling.TheVariants.{Propose};
+ghost use Rattle.mk_words.specs.Rulings.{new_coord, vote_counted, accept_counted, coord_proposed, coord_taught, ruling, by_votes as votes_ruling, by_accepts as accepts_ruling};
 
 use crate::Ruling;
 use crate::counting::{count_aborts, count_oks, count_votes, first_refusal};
-use crate::slots::{count_accepts, fill};
-use mk_quorum::Size;
+use mk_quorum::{Size, count_accepts, fill};
 use mk_txn::{Outcome, Vote};
 use std::marker::Model;
 
 /// What an attempt's own coordinator took: votes, accepts of its proposal, and an outcome that it was taught.
-#[derive(Drop, Debug)]
+#[derive(Drop)]
 pub struct Coord {
     size: Size,
     votes: [Option<Vote>; 7],
@@ -22,7 +21,7 @@ pub struct Coord {
 }
 
 impl Model for Coord {
-    ghost use Rattle.mk_coord.specs.Rulings.{SizedCoord, seen_coord, HasSlots};
+    ghost use Rattle.mk_words.specs.Rulings.{SizedCoord, seen_coord, HasSlots};
 
     ghost Value = { SizedCoord };
 
@@ -37,8 +36,8 @@ impl Coord {
         ensures faults { result.faults ≡ size }
         ensures state { result.state ≡ new_coord size }
     {
-        // at most 3, so that seven slots are enough
-        let _ = size.f();
+        // so that seven slots are enough
+        prove!(size.f() <= 3);
         Coord {
             size,
             votes: [None; 7],

@@ -2,7 +2,7 @@
 ghost use Rattle.std.specs.Prelude.{◌≡◌, count_by};
 ghost use Rattle.mk_txn.specs.Outcomes.{is_ok_vote};
 ghost use Rattle.mk_quorum.specs.Slots.{passes};
-ghost use Rattle.mk_coord.specs.Rulings.{is_abort_vote, any_vote, first_refusal as refusal_of};
+ghost use Rattle.mk_words.specs.Rulings.{is_abort_vote, any_vote, first_refusal as refusal_of};
 
 use mk_txn::{Cause, Outcome, Vote};
 

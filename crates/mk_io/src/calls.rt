@@ -8,7 +8,7 @@ use std::alloc::Global;
 use std::marker::Model;
 
 /// How many calls were made and how many of them failed, and the numbers, from 1, of the calls that are to fail.
-#[derive(Debug, Drop)]
+#[derive(Drop)]
 pub struct CallCounter {
     failing: Vec<u32>,
     made: u64,

@@ -6,14 +6,12 @@
 
 ghost use Rattle.std.specs.Prelude.{◌≡◌, ℕ, ◌<◌, ◌≤◌, List, Option, None, length, is_ok, if◌then◌else◌, IfOk, OnOk, OnErr};
 ghost use Rattle.std.specs.Io.KnownBytes.{ReadConsumes, WriteAppends};
-ghost use Rattle.mk_io.specs.Faults.{HasRisen};
+ghost use Rattle.mk_io.specs.Faults.{HasRisen, one_more_told};
 
 mod adapters;
 mod calls;
 mod memory;
 mod sure;
-#[cfg(test)]
-mod tests;
 mod whole;
 
 pub use adapters::{StdSink, StdSource};
@@ -22,7 +20,7 @@ pub use sure::{SureSink, SureSource, SureWord};
 pub use whole::{ReadError, read_whole, write_whole};
 
 /// A call on the outside failed, and took nothing.
-#[derive(Clone, Copy, Debug, PartialEq, Eq)]
+#[derive(Clone, Copy, PartialEq, Eq)]
 pub struct Failed;
 
 /// What bytes are read from.
@@ -38,6 +36,7 @@ pub trait Source {
     fn read(&mut self, buf: &mut [u8]) -> Result<usize, Failed>
         ensures bound { IfOk result (λ n. n ≤ length buf.new) }
         ensures bytes { ReadConsumes (left self.old) (left self.new) result buf.new }
+        ensures no_fault { OnOk result (faults self.new ≡ faults self.old) }
         ensures fault { OnErr result (HasRisen (faults self.old) (faults self.new)) }
         ensures never_falls { faults self.old ≤ faults self.new };
 }
@@ -56,6 +55,7 @@ pub trait Sink {
         ensures bound { IfOk result (λ n. n ≤ length bytes.now) }
         ensures some { IfOk result (λ n. 0 < length bytes.now → 0 < n) }
         ensures bytes { WriteAppends (held self.old) (held self.new) result bytes.now }
+        ensures no_fault { OnOk result (faults self.new ≡ faults self.old) }
         ensures fault { OnErr result (HasRisen (faults self.old) (faults self.new)) }
         ensures never_falls { faults self.old ≤ faults self.new };
 }
@@ -68,13 +68,17 @@ pub trait EpochWord {
     /// The number that it keeps.
     ghost kept: { Self → ℕ };
 
+    /// How many calls of `set` there were so far, where that is known. The count stands still at 2^64 - 1.
+    ghost sets: { Self → Option ℕ } = { λ _. None };
+
     /// The number that it keeps.
     fn get(&self) -> u32
         ensures { result ≡ kept self.now };
 
-    /// Keeps this number from now on. A failed call leaves the number as it was.
+    /// Keeps this number from now on. A failed call leaves the number as it was, and counts as a call too.
     fn set(&mut self, value: u32) -> Result<(), Failed>
         ensures kept { kept self.new ≡ (if is_ok result then value else kept self.old) }
+        ensures counted { sets self.new ≡ one_more_told (sets self.old) }
         ensures no_fault { OnOk result (faults self.new ≡ faults self.old) }
         ensures fault { OnErr result (HasRisen (faults self.old) (faults self.new)) }
         ensures never_falls { faults self.old ≤ faults self.new };

@@ -1,7 +1,7 @@
 //! A source, a sink and a word in memory, of which listed calls fail.
 ghost use Rattle.std.specs.Prelude.{◌≡◌, ◌<◌, ◌≤◌, [], Some, ◌++◌, length, take, drop, is_ok, is_err, if◌then◌else◌, IfOk, OnOk, OnErr};
 ghost use Rattle.std.specs.Io.KnownBytes.{ReadConsumes, WriteAppends};
-ghost use Rattle.mk_io.specs.Faults.{HasRisen};
+ghost use Rattle.mk_io.specs.Faults.{HasRisen, one_more_told};
 ghost use Rattle.mk_io.specs.Calls.{no_calls, is_next_listed};
 ghost use Rattle.mk_io.specs.Memory.{next_read, after_read, after_failed_read, next_write, fails_write, after_write, after_failed_write, after_set, after_failed_set};
 
@@ -12,7 +12,7 @@ use std::alloc::Global;
 use std::marker::Model;
 
 /// Bytes in memory, given a few at a time.
-#[derive(Debug, Drop)]
+#[derive(Drop)]
 pub struct MemSource {
     bytes: Vec<u8>,
     at: usize,
@@ -59,6 +59,7 @@ impl Source for MemSource {
     fn read(&mut self, buf: &mut [u8]) -> Result<usize, Failed>
         ensures bound { IfOk result (λ n. n ≤ length buf.new) }
         ensures bytes { ReadConsumes (Some self.old.left) (Some self.new.left) result buf.new }
+        ensures no_fault { OnOk result (self.new.calls.faults ≡ self.old.calls.faults) }
         ensures fault { OnErr result (HasRisen self.old.calls.faults self.new.calls.faults) }
         ensures never_falls { self.old.calls.faults ≤ self.new.calls.faults }
 
@@ -90,7 +91,7 @@ pub(crate) fn copy_front(from: &[u8], count: usize, to: &mut [u8])
 }
 
 /// A writer into memory, a few bytes at a time.
-#[derive(Debug, Drop)]
+#[derive(Drop)]
 pub struct MemSink {
     bytes: Vec<u8>,
     piece: u32,
@@ -141,6 +142,7 @@ impl Sink for MemSink {
         ensures bound { IfOk result (λ n. n ≤ length bytes.now) }
         ensures some { IfOk result (λ n. 0 < length bytes.now → 0 < n) }
         ensures bytes { WriteAppends (Some self.old.held) (Some self.new.held) result bytes.now }
+        ensures no_fault { OnOk result (self.new.calls.faults ≡ self.old.calls.faults) }
         ensures fault { OnErr result (HasRisen self.old.calls.faults self.new.calls.faults) }
         ensures never_falls { self.old.calls.faults ≤ self.new.calls.faults }
 
@@ -164,7 +166,7 @@ impl Sink for MemSink {
 }
 
 /// A word in memory.
-#[derive(Debug, Drop)]
+#[derive(Drop)]
 pub struct MemWord {
     kept: u32,
     calls: CallCounter,
@@ -195,12 +197,15 @@ impl EpochWord for MemWord {
 
     ghost kept = { λ w. w.kept };
 
+    ghost sets = { λ w. Some w.calls.made };
+
     fn get(&self) -> u32 {
         self.kept
     }
 
     fn set(&mut self, value: u32) -> Result<(), Failed>
         ensures kept { self.new.kept ≡ (if is_ok result then value else self.old.kept) }
+        ensures counted { Some self.new.calls.made ≡ one_more_told (Some self.old.calls.made) }
         ensures no_fault { OnOk result (self.new.calls.faults ≡ self.old.calls.faults) }
         ensures fault { OnErr result (HasRisen self.old.calls.faults self.new.calls.faults) }
         ensures never_falls { self.old.calls.faults ≤ self.new.calls.faults }

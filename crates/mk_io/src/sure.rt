@@ -1,5 +1,5 @@
 //! A source, a sink and a word of which no call fails.
-ghost use Rattle.std.specs.Prelude.{◌≡◌, ◌≤◌, Some, Ok, ◌++◌, length, take, drop, min, IsOk, IfOk, OnErr};
+ghost use Rattle.std.specs.Prelude.{◌≡◌, ℕ, ◌≤◌, Some, Ok, ◌++◌, length, take, drop, min, IsOk, IfOk, OnOk, OnErr};
 ghost use Rattle.std.specs.Io.KnownBytes.{ReadConsumes};
 ghost use Rattle.mk_io.specs.Faults.{HasRisen};
 
@@ -8,7 +8,7 @@ use crate::{EpochWord, Failed, Sink, Source};
 use std::marker::Model;
 
 /// A source of these bytes, of which no call fails.
-#[derive(Debug, Drop)]
+#[derive(Drop)]
 pub struct SureSource<'a> {
     left: &'a [u8],
 }
@@ -38,6 +38,7 @@ impl Source for SureSource<'_> {
     fn read(&mut self, buf: &mut [u8]) -> Result<usize, Failed>
         ensures bound { IfOk result (λ n. n ≤ length buf.new) }
         ensures bytes { ReadConsumes (Some self.old) (Some self.new) result buf.new }
+        ensures no_fault { OnOk result (◌≡◌ {A = ℕ} 0 0) }
         ensures fault { OnErr result (HasRisen 0 0) }
         ensures never_falls { 0 ≤ 0 }
         ensures count { result ≡ Ok (min (length buf.old) (length self.old)) }
@@ -53,7 +54,7 @@ impl Source for SureSource<'_> {
 }
 
 /// A sink that takes each piece whole and keeps no byte, so it tells none.
-#[derive(Clone, Copy, Debug, PartialEq, Eq)]
+#[derive(Clone, Copy, PartialEq, Eq)]
 pub struct SureSink;
 
 impl SureSink {
@@ -74,7 +75,7 @@ impl Sink for SureSink {
 }
 
 /// A word of which no set fails.
-#[derive(Debug, Drop)]
+#[derive(Drop)]
 pub struct SureWord {
     kept: u32,
 }

@@ -9,7 +9,7 @@ use crate::{Failed, Sink, Source};
 use std::alloc::{AllocError, Global};
 
 /// Why a source was not read to its end.
-#[derive(Clone, Copy, Debug, PartialEq, Eq)]
+#[derive(Clone, Copy, PartialEq, Eq)]
 pub enum ReadError {
     /// A call of the source failed.
     Fault,
@@ -49,6 +49,7 @@ pub fn read_whole<S: Source>(
     // One byte more than the limit was taken, and at every other error no more than the limit.
     ensures too_long { IsErrOf result ReadError.TooLong → TakesCount (S.left source.old) (S.left source.new) (limit + 1) }
     ensures not_too_long { IfErr result (λ e. e ≢ ReadError.TooLong → TakesAtMost (S.left source.old) (S.left source.new) limit) }
+    ensures no_fault { OnOk result (S.faults source.new ≡ S.faults source.old) }
     ensures fault { IsErrOf result ReadError.Fault → HasRisen (S.faults source.old) (S.faults source.new) }
     ensures never_falls { S.faults source.old ≤ S.faults source.new }
 {
@@ -73,6 +74,7 @@ pub fn read_whole<S: Source>(
 pub fn write_whole<K: Sink>(sink: &mut K, text: &[u8]) -> Result<(), Failed>
     ensures ok { OnOk result (Appends (K.held sink.old) (K.held sink.new) text.now) }
     ensures err { OnErr result (AppendsPart (K.held sink.old) (K.held sink.new) text.now) }
+    ensures no_fault { OnOk result (K.faults sink.new ≡ K.faults sink.old) }
     ensures fault { OnErr result (HasRisen (K.faults sink.old) (K.faults sink.new)) }
     ensures never_falls { K.faults sink.old ≤ K.faults sink.new }
 {

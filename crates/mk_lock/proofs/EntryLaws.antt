@@ -1,6 +1,6 @@
 -- Entries by seat.
 use Rattle.std.proofs.Common.{◌≡◌, ◌≢◌, ℕ, List, [], ◌∷◌, refl, ap, sym, ◌∙◌, cond, eq-eqb, ne_eqb}
-use Rattle.mk_cell.specs.declared.JournalEntry.{JournalEntry}
+use Rattle.mk_words.specs.declared.JournalEntry.{JournalEntry}
 use Rattle.mk_lock.specs.Entries.{of_seat, IsBy}
 
 pub of_seat_mine : (number : ℕ) (more : List JournalEntry) → IsBy number more → of_seat number more ≡ more

@@ -3,5 +3,3 @@ pub mod TotalLaws
 pub mod StepLaws
 pub mod TurnLaws
 pub mod SeatLaws
-pub mod SeatUse
-pub mod Crossing

@@ -10,10 +10,10 @@ use Rattle.atomic_table.specs.Table.{Me, Splits, Final, Seen}
 use Rattle.mk_lock.specs.declared.view.Stage.TheVariants.{Idle}
 use Rattle.mk_lock.specs.declared.view.View.{View}
 use Rattle.mk_lock.specs.declared.view.Origin.{Origin}
-use Rattle.mk_cell.specs.Journals.{Replays}
+use Rattle.mk_words.specs.Journals.{Replays}
 use Rattle.mk_lock.specs.Entries.{JournalState, of_seat}
-use Rattle.mk_cell.specs.declared.JournalEntry.{JournalEntry}
-use Rattle.mk_cell.specs.Cells.{CellState}
+use Rattle.mk_words.specs.declared.JournalEntry.{JournalEntry}
+use Rattle.mk_words.specs.Cells.{CellState}
 use Rattle.mk_lock.specs.declared.view.Held.{Held}
 use Rattle.mk_lock.specs.Seats.{SeatView, seat_view, held_of, resting, AreSeatsOf, IsJournalOf}
 use Rattle.mk_lists.specs.Among.{Each}

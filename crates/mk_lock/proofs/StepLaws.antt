@@ -8,7 +8,7 @@ use native.Mathlib.Decide.{ℕ_discrete}
 use lib.ListN.{get_elem?}
 use Rattle.atomic_table.specs.Table.{State, Me, step, keeps, takes, gives, opening, Allows, Splits, Joins, Final, Seen}
 use Rattle.atomic_table.proofs.Lists.{set_else, set_here, set_again, at_longer, one_turn}
-use Rattle.mk_cell.specs.declared.JournalEntry.{JournalEntry}
+use Rattle.mk_words.specs.declared.JournalEntry.{JournalEntry}
 use Rattle.mk_lock.specs.declared.view.Held.{Held}
 use Rattle.mk_lock.specs.declared.view.Stage.{Stage}
 use Rattle.mk_lock.specs.declared.view.Stage.TheVariants.{Idle, Waiting, InTurn}

@@ -3,9 +3,9 @@ use Rattle.std.proofs.Common.{◌≡◌, ◌≢◌, ℕ, List, [], ◌∷◌, �
 use Rattle.std.proofs.Math.Seq.{drop-append_seam}
 use Rattle.atomic_table.specs.Table.{Me, rest}
 use Rattle.mk_txn.specs.declared.NoMemory.{NoMemory}
-use Rattle.mk_cell.specs.declared.Act.{Act}
-use Rattle.mk_cell.specs.declared.Answer.{Answer}
-use Rattle.mk_cell.specs.declared.JournalEntry.{JournalEntry}
+use Rattle.mk_words.specs.declared.Act.{Act}
+use Rattle.mk_words.specs.declared.Answer.{Answer}
+use Rattle.mk_words.specs.declared.JournalEntry.{JournalEntry}
 use Rattle.mk_lock.specs.declared.view.Stage.{Stage}
 use Rattle.mk_lock.specs.declared.view.Stage.TheVariants.{Waiting, InTurn}
 use Rattle.mk_lock.specs.declared.view.View.{View}
@@ -70,6 +70,3 @@ act_ends number found act r entries a b c old new rests waits turn slot opening 
       (held number entries, t, x, new, more, now, opening ∙ ap (λ (k : JournalState). k.opening) old_is, longer, more_by number act r),
       ap ended now ∙ ap (λ (l : List JournalEntry). resting number (entries ++ l)) added_is,
     )
-
-pub rests_again : (number : ℕ) (entries : List JournalEntry) (m : Sat) → m ≡ resting number entries → m ≡ resting number (first_entries m.0)
-rests_again number entries m is = is ∙ ap (resting number) (sym (ap (λ (z : Sat). first_entries z.0) is))

@@ -1,10 +1,10 @@
 -- The entries of a journal, by seat.
 use Rattle.std.specs.Prelude.{◌≡◌, ℕ, nat_eq, List, [], ◌∷◌}
 use Rattle.std.specs.List.{filter}
-use Rattle.mk_cell.specs.declared.Act.{Act}
-use Rattle.mk_cell.specs.declared.Answer.{Answer}
-use Rattle.mk_cell.specs.declared.JournalEntry.{JournalEntry}
-use Rattle.mk_cell.specs.Cells.{CellState}
+use Rattle.mk_words.specs.declared.Act.{Act}
+use Rattle.mk_words.specs.declared.Answer.{Answer}
+use Rattle.mk_words.specs.declared.JournalEntry.{JournalEntry}
+use Rattle.mk_words.specs.Cells.{CellState}
 
 -- the cell that a journal begins with, and its entries
 pub record JournalState : Type 0 where

@@ -2,18 +2,14 @@
 use Rattle.std.specs.Prelude.{◌≡◌, ℕ, ◌≤◌, List, [], ◌∷◌, length, slice_get, Some}
 use Rattle.atomic_table.specs.Seated.{TableId}
 use Rattle.atomic_table.specs.Table.{Me}
-use Rattle.mk_cell.specs.declared.JournalEntry.{JournalEntry}
-use Rattle.mk_cell.specs.Cells.{CellState}
+use Rattle.mk_words.specs.declared.JournalEntry.{JournalEntry}
+use Rattle.mk_words.specs.Cells.{CellState}
 use Rattle.mk_lock.specs.declared.view.Held.{Held}
 use Rattle.mk_lock.specs.declared.view.Stage.TheVariants.{Idle}
 use Rattle.mk_lock.specs.declared.view.View.{View}
-use Rattle.mk_cell.specs.Journals.{Replays}
+use Rattle.mk_words.specs.Journals.{Replays}
 use Rattle.mk_lock.specs.Entries.{JournalState, of_seat}
 use Rattle.mk_lock.specs.Turns.{held, view}
-
--- what tells one lock from another
-abbrev pub LockName : Type 0
-LockName = TableId
 
 -- the lock's name, the seat's number, and the list of its own entries
 pub record SeatView : Type 0 where

@@ -5,7 +5,7 @@ use mathlib.Core.Option.{Option, none, some}
 use lib.ListN.{get_elem?}
 use Rattle.atomic_table.specs.Table.{State, Me, Step}
 use Rattle.mk_lists.specs.Among.{Each}
-use Rattle.mk_cell.specs.declared.JournalEntry.{JournalEntry}
+use Rattle.mk_words.specs.declared.JournalEntry.{JournalEntry}
 use Rattle.mk_lock.specs.declared.view.Held.{Held}
 use Rattle.mk_lock.specs.declared.view.Stage.{Stage}
 use Rattle.mk_lock.specs.declared.view.Stage.TheVariants.{Idle, Waiting, InTurn}

@@ -7,6 +7,7 @@ pub trait Gate {
 }
 
 /// It holds nobody.
+#[derive(Clone, Copy)]
 pub struct NoGate;
 
 impl Gate for NoGate {

@@ -1,11 +1,12 @@
 // A cell with its journal.
 ghost use Rattle.std.specs.Prelude.{◌≡◌, true, [], ◌∷◌, ◌++◌, IfOk, OnErr};
-ghost use Rattle.mk_cell.specs.Acts.{answer_fits};
-ghost use Rattle.mk_cell.specs.Journals.{Replays};
+ghost use Rattle.mk_words.specs.Acts.{answer_fits};
+ghost use Rattle.mk_words.specs.Journals.{Replays};
 ghost use Rattle.mk_lock.specs.Entries.{entry};
 
-use mk_cell::{Act, Answer, Cell, JournalEntry};
+use mk_cell::Cell;
 use mk_txn::NoMemory;
+use mk_words::{Act, Answer, JournalEntry};
 use std::alloc::Global;
 use std::marker::Model;
 use std::snapshot::Snapshot;
@@ -19,7 +20,7 @@ pub struct Journal {
 }
 
 impl Model for Journal {
-    ghost use Rattle.mk_cell.specs.Journals.{Replays};
+    ghost use Rattle.mk_words.specs.Journals.{Replays};
     ghost use Rattle.mk_lock.specs.Entries.{JournalState};
 
     ghost Value = { JournalState };

@@ -6,8 +6,6 @@ mod journal;
 mod lock;
 mod plays;
 mod seat;
-#[cfg(test)]
-mod tests;
 mod view;
 
 pub use gate::{Gate, NoGate};

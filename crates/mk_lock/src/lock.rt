@@ -1,6 +1,6 @@
 // The lock of a key at a replica.
 ghost use Rattle.std.specs.Prelude.{◌≡◌, ℕ, ◌<◌, ◌≤◌, true, [], ◌∷◌, ◌++◌, All, map, length, slice_get, Some, IfOk, OnErr};
-ghost use Rattle.mk_cell.specs.Acts.{answer_fits};
+ghost use Rattle.mk_words.specs.Acts.{answer_fits};
 ghost use Rattle.mk_lock.specs.declared.view.Stage.TheVariants.{Idle};
 ghost use Rattle.mk_lock.specs.Turns.{view, fresh};
 ghost use Rattle.mk_lock.specs.Seats.{seat_view, held_of};
@@ -12,8 +12,9 @@ use crate::seat::{Seat, Token};
 use crate::view::{Origin, View};
 use atomic_table::{Refused, Table};
 use crossbeam_utils::Backoff;
-use mk_cell::{Act, Answer, Cell, JournalEntry};
+use mk_cell::Cell;
 use mk_txn::NoMemory;
+use mk_words::{Act, Answer, JournalEntry};
 use std::alloc::Global;
 use std::marker::Model;
 use std::snapshot::Snapshot;

@@ -1,6 +1,7 @@
 // What the lock's rule says that a seat knows, and what the lock is told when it is made.
 use crate::journal::Journal;
-use mk_cell::{Cell, JournalEntry};
+use mk_cell::Cell;
+use mk_words::JournalEntry;
 use std::collections::LinkedList;
 use std::snapshot::Snapshot;
 

@@ -2,10 +2,10 @@
 use Rattle.std.specs.Prelude.{◌≡◌, ℕ, Bool, ◌+◌, ◌&&◌, ◌==◌, List, length, slice_get, unwrap_or}
 use Rattle.std.specs.Map.{lookup}
 use Rattle.mk_txn.specs.declared.TxnId.{TxnId}
-use Rattle.mk_msg.specs.declared.MsgKind.{MsgKind}
-use Rattle.mk_msg.specs.declared.Msg.{Msg}
+use Rattle.mk_words.specs.declared.MsgKind.{MsgKind}
+use Rattle.mk_words.specs.declared.Msg.{Msg}
 use Rattle.mk_msg.specs.declared.link.Stream.{Stream}
-use Rattle.mk_msg.specs.Links.{kind_number, count_of, place_of}
+use Rattle.mk_words.specs.Links.{kind_number, count_of, place_of}
 
 -- what messages of this kind, attempt and replica are counted by
 abbrev pub stream_of : MsgKind → TxnId → ℕ → Stream

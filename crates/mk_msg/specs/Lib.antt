@@ -1,4 +1,3 @@
 -- Messages, and the list of those that were sent.
 pub mod Indexes
-pub mod Links
 pub mod Sendings

@@ -1,6 +1,6 @@
 -- A link, as contracts see it.
 use Rattle.std.specs.Prelude.{ℕ, List}
-use Rattle.mk_msg.specs.declared.Msg.{Msg}
+use Rattle.mk_words.specs.declared.Msg.{Msg}
 
 -- the messages sent, in order, and for how many more there is room
 pub record LinkView : Type 0 where

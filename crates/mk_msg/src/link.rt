@@ -1,6 +1,6 @@
 //! The list of the messages that were sent.
 ghost use Rattle.std.specs.Prelude.{◌≡◌, ◌+◌, ◌≤◌, [], ◌∷◌, ◌++◌, length, OnOk, OnErr, IfOk, IsOk, option_copied};
-ghost use Rattle.mk_msg.specs.Links.{message, count_of, place_of};
+ghost use Rattle.mk_words.specs.Links.{message, count_of, place_of};
 
 use crate::{Msg, MsgKind};
 use mk_txn::{NoMemory, TxnId};
@@ -9,7 +9,7 @@ use std::collections::HashMap;
 use std::marker::Model;
 
 // What messages are counted by: their kind, attempt and replica.
-#[derive(Clone, Copy, Debug, PartialEq, Eq, Hash)]
+#[derive(Clone, Copy, PartialEq, Eq, Hash)]
 struct Stream {
     kind: u8,
     client: u32,
@@ -18,7 +18,7 @@ struct Stream {
 }
 
 impl Stream {
-    ghost use Rattle.mk_msg.specs.Links.{kind_number};
+    ghost use Rattle.mk_words.specs.Links.{kind_number};
 
     fn new(kind: MsgKind, id: TxnId, replica: u32) -> Stream
         ensures { result ≡ record { kind = kind_number kind; client = id.client; seq = id.seq; replica = replica } }
@@ -33,7 +33,7 @@ impl Stream {
 }
 
 /// All messages sent so far, in the order of sending. Their numbers count from 1.
-#[derive(Drop, Debug)]
+#[derive(Drop)]
 pub struct Link {
     messages: Vec<Msg>,
     // beside each message its place among those of its kind, attempt and replica

@@ -6,9 +6,9 @@ use Rattle.std.proofs.Math.Seq.{take-suc}
 use Rattle.std.proofs.lemmas.Slice.Eq.{bytes_eq-Decides}
 use Rattle.std.proofs.lemmas.Option.{get_or_from_slice_get}
 use Rattle.mk_lists.specs.Among.{Among, Each, Each-append, AllDistinct, Among-append}
-use Rattle.mk_text.specs.Words.{is_name}
-use Rattle.mk_text.specs.Fields.{place, one_on}
-use Rattle.mk_text.proofs.FieldLaws.{some_is, bytes_eq-same}
+use Rattle.mk_spelling.specs.Words.{is_name}
+use Rattle.mk_spelling.specs.Fields.{place, one_on}
+use Rattle.std.proofs.lemmas.Option.{same_Some}
 use Rattle.mk_names.specs.NameLists.{NameList, IsNameList}
 
 abbrev pub some_text : List ℕ → Option (List ℕ)
@@ -20,18 +20,18 @@ some_place n = Some n
 -- what stands at a place is a name
 pub name_at : (names : List (List ℕ)) (k : ℕ) (w : List ℕ) → Each (λ name. is_name name ≡ true) names → slice_get names k ≡ Some w → is_name w ≡ true
 name_at [] k w h e = absurd cc
-name_at (x ∷ xs) zero w h e = subst (λ (n : List ℕ). is_name n ≡ true) (some_is x w e) h.0
+name_at (x ∷ xs) zero w h e = subst (λ (n : List ℕ). is_name n ≡ true) (same_Some x w e) h.0
 name_at (x ∷ xs) (suc k) w h e = name_at xs k w h.1 e
 
 among_at : (names : List (List ℕ)) (k : ℕ) (w : List ℕ) → slice_get names k ≡ Some w → Among w names
 among_at [] k w e = absurd cc
-among_at (x ∷ xs) zero w e = inl (some_is x w e)
+among_at (x ∷ xs) zero w e = inl (same_Some x w e)
 among_at (x ∷ xs) (suc k) w e = inr (among_at xs k w e)
 
 -- and its place is the first of that name
 pub place_at : (names : List (List ℕ)) (k : ℕ) (w : List ℕ) → AllDistinct names → slice_get names k ≡ Some w → place w names ≡ Some k
 place_at [] k w h e = absurd cc
-place_at (x ∷ xs) zero w h e = rw ((bytes_eq-Decides w x).1 (sym (some_is x w e))) refl
+place_at (x ∷ xs) zero w h e = rw ((bytes_eq-Decides w x).1 (sym (same_Some x w e))) refl
 place_at (x ∷ xs) (suc k) w h e = here (bytes_eq w x) refl (place_at xs k w h.1 e)
   where
     here : (b : Bool) → bytes_eq w x ≡ b → place w xs ≡ Some k → cond b (Some 0) (one_on (place w xs)) ≡ Some (suc k)
@@ -59,7 +59,8 @@ distinct_push (x ∷ xs) w h fresh = (
 )
 
 -- a new name may stand last
-pub pushed : (list : NameList) (w : List ℕ) → IsNameList list → is_name w ≡ true → place w list.names ≡ None → length list.names < list.limit → IsNameList (record list { names = list.names ++ w ∷ [] })
+pub pushed : (list : NameList) (w : List ℕ) → IsNameList list → is_name w ≡ true → place w list.names ≡ None → length list.names < list.limit
+    → IsNameList (record list { names = list.names ++ w ∷ [] })
 pushed list w h well_named fresh room = record {
   named = Each-append (λ name. is_name name ≡ true) list.names (w ∷ []) h.named (well_named, tt);
   distinct = distinct_push list.names w h.distinct (not_among list.names w fresh);
@@ -67,23 +68,14 @@ pushed list w h well_named fresh room = record {
   counted = h.counted;
 }
 
--- its number is how many there were
-pub place-pushed : (names : List (List ℕ)) (w : List ℕ) → place w names ≡ None → place w (names ++ w ∷ []) ≡ Some (length names)
-place-pushed [] w e = rw (bytes_eq-same w) refl
-place-pushed (x ∷ xs) w e = here (bytes_eq w x) refl (place w xs) (place-pushed xs w) e
-  where
-    here : (b : Bool) → bytes_eq w x ≡ b → (o : Option ℕ) → (o ≡ None → place w (xs ++ w ∷ []) ≡ Some (length xs)) → cond b (Some 0) (one_on o) ≡ None → place w (x ∷ (xs ++ w ∷ [])) ≡ Some (suc (length xs))
-    here true b o ih k = absurd cc
-    here false b (Some n) ih k = absurd cc
-    here false b None ih k = rw (b, ih refl) refl
-
 -- before its first place a name does not stand
 pub place-take : (names : List (List ℕ)) (k : ℕ) (w : List ℕ) → place w names ≡ Some k → place w (take k names) ≡ None
 place-take [] k w e = absurd cc
 place-take (x ∷ xs) zero w e = refl
 place-take (x ∷ xs) (suc k) w e = here (bytes_eq w x) refl (place w xs) (place-take xs k w) e
   where
-    here : (b : Bool) → bytes_eq w x ≡ b → (o : Option ℕ) → (o ≡ Some k → place w (take k xs) ≡ None) → cond b (Some 0) (one_on o) ≡ Some (suc k) → place w (x ∷ take k xs) ≡ None
+    here : (b : Bool) → bytes_eq w x ≡ b → (o : Option ℕ) → (o ≡ Some k → place w (take k xs) ≡ None) → cond b (Some 0) (one_on o) ≡ Some (suc k)
+        → place w (x ∷ take k xs) ≡ None
     here true b o ih h = absurd cc
     here false b None ih h = absurd cc
     here false b (Some n) ih h =

@@ -3,9 +3,10 @@ use Rattle.std.proofs.Common.{◌≡◌, ℕ, suc, ◌+◌, Bool, true, false, c
 use Rattle.std.specs.List.{position, position_or_len, list_any}
 use Rattle.std.specs.Str.{bytes_eq}
 use Rattle.std.proofs.lemmas.Bool.Decides.{nat_tests}
-use Rattle.mk_text.specs.Fields.{place, one_on}
+use Rattle.mk_spelling.specs.Fields.{place, one_on}
 
-pub position_is_place : {X : Type 0} (p : X → Bool) (text : X → List ℕ) (w : List ℕ) → ((x : X) → p x ≡ bytes_eq w (text x)) → (xs : List X) → position p xs ≡ place w (map text xs)
+pub position_is_place : {X : Type 0} (p : X → Bool) (text : X → List ℕ) (w : List ℕ) → ((x : X) → p x ≡ bytes_eq w (text x)) → (xs : List X)
+    → position p xs ≡ place w (map text xs)
 position_is_place p text w same [] = refl
 position_is_place {X} p text w same (x ∷ xs) = here (p x) refl (position_is_place p text w same xs)
   where
@@ -25,11 +26,13 @@ position_is_place {X} p text w same (x ∷ xs) = here (p x) refl (position_is_pl
         let e : bytes_eq w (text x) ≡ false = sym (same x) ∙ b in
         rw (b, e) (pushed (1 + position_or_len p xs) (position_or_len p xs) (length xs) (omega arith) ∙ ap one_on rest)
 
-pub none_is_new : {X : Type 0} (p : X → Bool) (text : X → List ℕ) (w : List ℕ) → ((x : X) → p x ≡ bytes_eq w (text x)) → (xs : List X) → place w (map text xs) ≡ None → list_any p xs ≡ false
+pub none_is_new : {X : Type 0} (p : X → Bool) (text : X → List ℕ) (w : List ℕ) → ((x : X) → p x ≡ bytes_eq w (text x)) → (xs : List X)
+    → place w (map text xs) ≡ None → list_any p xs ≡ false
 none_is_new p text w same [] h = refl
 none_is_new {X} p text w same (x ∷ xs) h = here (bytes_eq w (text x)) refl (place w (map text xs)) (λ k. none_is_new p text w same xs k) h
   where
-    here : (b : Bool) → bytes_eq w (text x) ≡ b → (o : Option ℕ) → (o ≡ None → list_any p xs ≡ false) → cond b (Some 0) (one_on o) ≡ None → list_any p (x ∷ xs) ≡ false
+    here : (b : Bool) → bytes_eq w (text x) ≡ b → (o : Option ℕ) → (o ≡ None → list_any p xs ≡ false) → cond b (Some 0) (one_on o) ≡ None
+        → list_any p (x ∷ xs) ≡ false
     here true b o ih k = absurd cc
     here false b None ih k = rw (same x, b, ih refl) refl
     here false b (Some n) ih k = absurd cc

@@ -1,8 +1,8 @@
 -- Names in order of their numbers.
 use Rattle.std.specs.Prelude.{◌≡◌, ◌≤◌, ◌<◌, ◌^◌, ℕ, true, List, [], ◌∷◌, ◌++◌, length, None, is_some, if◌then◌else◌}
 use Rattle.mk_lists.specs.Among.{Each, AllDistinct}
-use Rattle.mk_text.specs.Words.{is_name}
-use Rattle.mk_text.specs.Fields.{place}
+use Rattle.mk_spelling.specs.Words.{is_name}
+use Rattle.mk_spelling.specs.Fields.{place}
 
 -- distinct names, and how many there may be
 pub record NameList : Type 0 where

@@ -4,6 +4,3 @@
 mod names;
 
 pub use names::{NameError, Names};
-
-#[cfg(test)]
-mod tests;

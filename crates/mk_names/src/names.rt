@@ -1,6 +1,6 @@
 ghost use Rattle.std.specs.Prelude.{◌≡◌, ◌↔◌, ◌≤◌, ◌<◌, ◌==◌, ◌++◌, ◌∷◌, [], length, false, true, Err, Some, None, IfSome, IfOk, OnOk, OnErr, slice_get};
-ghost use Rattle.mk_text.specs.Words.{is_name};
-ghost use Rattle.mk_text.specs.Fields.{place};
+ghost use Rattle.mk_spelling.specs.Words.{is_name};
+ghost use Rattle.mk_spelling.specs.Fields.{place};
 ghost use Rattle.mk_names.specs.NameLists.{with_name, IsBeyond};
 ghost use Rattle.mk_names.specs.Shown.{text_of};
 
@@ -11,7 +11,7 @@ use std::alloc::Global;
 use std::marker::Model;
 
 /// Why a name got no number.
-#[derive(Clone, Copy, Debug, PartialEq, Eq)]
+#[derive(Clone, Copy, PartialEq, Eq)]
 pub enum NameError {
     /// The text is no name: a letter `a` to `z` and at most 15 letters, digits and `_`.
     BadName,

@@ -3,14 +3,12 @@
 
 mod procs;
 mod standard;
-#[cfg(test)]
-mod tests;
 
 pub use procs::{Proc, Procedure, Procs};
 pub use standard::{add, max, sum};
 
 /// What a computed write does with the values that its attempt read.
-#[derive(Clone, Copy, Debug, PartialEq, Eq)]
+#[derive(Clone, Copy, PartialEq, Eq)]
 pub enum ProcKind {
     /// The first value and the argument together.
     Add,
@@ -21,7 +19,7 @@ pub enum ProcKind {
 }
 
 /// One item of a transaction, in order of mention.
-#[derive(Clone, Copy, Debug, PartialEq, Eq)]
+#[derive(Clone, Copy, PartialEq, Eq)]
 pub enum Item {
     Read(u32),
     Write { key: u32, value: u64 },

@@ -5,7 +5,8 @@ use Rattle.mk_txn.specs.declared.Vote.TheVariants.{Ok as VoteOk}
 use Rattle.mk_txn.specs.declared.Outcome.TheVariants.{Commit}
 use Rattle.mk_txn.specs.Transactions.{Transaction}
 use Rattle.mk_record.specs.declared.RecordError.TheVariants.{Finished, OldView}
-use Rattle.mk_record.specs.Entries.{opened, with_vote, with_promise, with_accepted, with_last, may_vote, refusal_of}
+use Rattle.mk_words.specs.Entries.{opened, with_vote, with_promise, with_accepted, with_last, may_vote}
+use Rattle.mk_record.specs.Entries.{refusal_of}
 
 abbrev txn : Transaction
 txn = record { id = record { client = 1; seq = 1 }; stamp = record { time = 10; client = 1 }; reads = []; writes = [] }

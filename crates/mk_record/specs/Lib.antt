@@ -1,3 +1,2 @@
 -- The record of a replica.
 pub mod Entries
-pub mod Indexes

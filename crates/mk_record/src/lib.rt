@@ -2,27 +2,17 @@
 #![tactic(auto)]
 
 ghost use Rattle.std.specs.Prelude.{◌≡◌, IfOk};
+ghost use Rattle.mk_record.specs.Entries.{refusal_of};
 
 mod record;
-#[cfg(test)]
-mod tests;
 
-use mk_txn::{Accepted, NoMemory, Outcome, Txn, Vote};
+use mk_txn::{NoMemory, Outcome};
+pub use mk_words::Entry;
 pub use record::CoreRecord;
 use std::alloc::Global;
 
-/// One attempt at one replica: the view it promised, its vote, what it accepted, and the final outcome.
-#[derive(Drop, Debug)]
-pub struct Entry {
-    pub txn: Txn,
-    pub view: u32,
-    pub vote: Option<Vote>,
-    pub accepted: Option<Accepted>,
-    pub last: Option<Outcome>,
-}
-
 /// Why a view is not promised, or an outcome not accepted in it.
-#[derive(Clone, Copy, Debug, PartialEq, Eq)]
+#[derive(Clone, Copy, PartialEq, Eq)]
 pub enum RecordError {
     /// The entry is final, with this outcome.
     Finished(Outcome),
@@ -30,32 +20,16 @@ pub enum RecordError {
     OldView(u32),
 }
 
-impl Entry {
-    ghost use Rattle.mk_record.specs.Entries.{refusal_of};
-
-    pub fn copy(&self) -> Result<Entry, NoMemory>
-        ensures { IfOk result (λ entry. entry ≡ self.now) }
-    {
-        Ok(Entry {
-            txn: self.txn.copy()?,
-            view: self.view,
-            vote: self.vote,
-            accepted: self.accepted,
-            last: self.last,
-        })
-    }
-
-    // Why the view is not promised, and nothing accepted in it.
-    fn refusal(&self, view: u32) -> Option<RecordError>
-        ensures { result ≡ refusal_of view self.now }
-    {
-        if let Some(outcome) = self.last {
-            Some(RecordError::Finished(outcome))
-        } else if view < self.view {
-            Some(RecordError::OldView(self.view))
-        } else {
-            None
-        }
+// Why the view is not promised, and nothing accepted in it.
+fn refusal(entry: &Entry, view: u32) -> Option<RecordError>
+    ensures { result ≡ refusal_of view entry.now }
+{
+    if let Some(outcome) = entry.last {
+        Some(RecordError::Finished(outcome))
+    } else if view < entry.view {
+        Some(RecordError::OldView(entry.view))
+    } else {
+        None
     }
 }
 

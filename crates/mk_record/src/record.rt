@@ -1,33 +1,34 @@
 //! The entries of one replica, found by the number of their attempt.
 ghost use Rattle.std.specs.Prelude.{◌≡◌, ◌<◌, true, None, Some, [], ◌∷◌, ◌++◌, length, slice_index_or, slice_set, IsSome, IsSomeAnd, OnOk, OnErr, IfErr, option_copied};
-ghost use Rattle.mk_record.specs.declared.Entry.{Entry as AnEntry};
-ghost use Rattle.mk_record.specs.Entries.{opened, entry_of, change_entry, with_vote, with_promise, with_accepted, with_last, may_vote, refusal_in, last_in, HasDistinctIds};
+ghost use Rattle.mk_words.specs.declared.Entry.{Entry as AnEntry};
+ghost use Rattle.mk_words.specs.Entries.{opened, entry_of, change_entry, with_vote, with_promise, with_accepted, with_last, may_vote, last_in, HasDistinctIds};
+ghost use Rattle.mk_record.specs.Entries.{refusal_in};
 
-use crate::{Entry, RecordError};
+use crate::{Entry, RecordError, refusal};
+use indexmap::IndexSet;
 use mk_txn::{Accepted, NoMemory, Outcome, Txn, TxnId, Vote};
 use std::alloc::Global;
-use std::collections::BTreeMap;
 use std::marker::Model;
 
 /// What a replica keeps: at most one entry of each attempt, in the order in which they were opened.
-#[derive(Drop, Debug)]
+#[derive(Drop)]
 pub struct CoreRecord {
     entries: Vec<Entry>,
-    // where the entry of each attempt stands
-    places: BTreeMap<TxnId, usize>,
+    // the attempt of each entry, at its place
+    ids: IndexSet<TxnId>,
 }
 
 impl Model for CoreRecord {
     ghost use Rattle.std.specs.Prelude.{List};
-    ghost use Rattle.mk_record.specs.declared.Entry.{Entry};
+    ghost use Rattle.mk_words.specs.declared.Entry.{Entry};
 
     ghost Value = { List Entry };
 
-    ghost use Rattle.mk_record.specs.Indexes.{ids_of, IsIndexed};
+    ghost use Rattle.mk_lists.specs.Keyed.{IsIndex};
 
     ghost view = { λ held. held.entries.items };
 
-    ghost invariant = { λ held. IsIndexed (ids_of held.entries.items) held.places.entries };
+    ghost invariant = { λ held. IsIndex (λ entry. entry.txn.id) held.entries.items held.ids.keys };
 }
 
 impl CoreRecord {
@@ -37,7 +38,7 @@ impl CoreRecord {
     {
         CoreRecord {
             entries: Vec::new(alloc),
-            places: BTreeMap::new(alloc),
+            ids: IndexSet::new(alloc),
         }
     }
 
@@ -45,8 +46,8 @@ impl CoreRecord {
     pub fn find(&self, id: TxnId) -> Option<&Entry>
         ensures { option_copied result ≡ entry_of id self.now }
     {
-        let place = self.places.get(&id)?;
-        self.entries.get(*place)
+        let place = self.ids.get_index_of(&id)?;
+        self.entries.get(place)
     }
 
     /// All entries, in the order in which they were opened.
@@ -62,7 +63,7 @@ impl CoreRecord {
         ensures { self.new ≡ [] }
     {
         self.entries.clear();
-        self.places.clear();
+        self.ids.clear();
     }
 
     /// Opens an entry of the transaction, which it copies: nothing is promised, voted, accepted or decided.
@@ -79,10 +80,8 @@ impl CoreRecord {
             last: None,
         };
         self.entries.reserve(1)?;
-        self.places.insert(txn.id(), self.entries.len())?;
-        if self.entries.push(entry).is_err() {
-            unreachable!();
-        }
+        self.ids.insert(txn.id())?;
+        self.entries.push_reserved(entry);
         Ok(())
     }
 
@@ -93,10 +92,7 @@ impl CoreRecord {
         ensures found { (entry : AnEntry) → entry_of id self.now ≡ Some (slice_index_or self.now result entry) }
         ensures changed { (f : AnEntry → AnEntry) (entry : AnEntry) → change_entry id f self.now ≡ slice_set self.now result (f (slice_index_or self.now result entry)) }
     {
-        match self.places.get(&id) {
-            Some(place) => *place,
-            None => unreachable!(),
-        }
+        self.ids.get_index_of(&id).unwrap()
     }
 
     /// Sets the vote of an entry for which nothing was promised, voted, accepted or decided.
@@ -117,7 +113,7 @@ impl CoreRecord {
         ensures refused { IfErr result (λ error. refusal_in view id self.old ≡ Some error) }
     {
         let place = self.place(id);
-        if let Some(error) = self.entries[place].refusal(view) {
+        if let Some(error) = refusal(&self.entries[place], view) {
             return Err(error);
         }
         self.entries[place].view = view;
@@ -133,7 +129,7 @@ impl CoreRecord {
         ensures refused { IfErr result (λ error. refusal_in view id self.old ≡ Some error) }
     {
         let place = self.place(id);
-        if let Some(error) = self.entries[place].refusal(view) {
+        if let Some(error) = refusal(&self.entries[place], view) {
             return Err(error);
         }
         let entry = &mut self.entries[place];

@@ -1,3 +1,2 @@
 -- The one copy, and what it explains.
-pub mod OneCopy
 pub mod Explained

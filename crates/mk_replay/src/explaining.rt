@@ -1,7 +1,8 @@
 //! Whether what was read is what the commits left.
 ghost use Rattle.std.specs.Prelude.{◌≡◌, ◌↔◌, IfOk, IsNone};
-ghost use Rattle.mk_replay.specs.OneCopy.{HaveDistinctStamps};
-ghost use Rattle.mk_replay.specs.Explained.{unexplained_read, IsExplained};
+ghost use Rattle.mk_model.specs.OneCopy.{HaveDistinctStamps};
+ghost use Rattle.mk_model.specs.Explained.{IsExplained};
+ghost use Rattle.mk_replay.specs.Explained.{unexplained_read};
 
 use crate::one_copy::OneCopy;
 use crate::order::by_stamp;

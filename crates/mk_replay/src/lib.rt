@@ -4,9 +4,8 @@
 mod explaining;
 mod one_copy;
 mod order;
-pub mod reads;
-#[cfg(test)]
-mod tests;
+mod reads;
 
 pub use explaining::unexplained;
-pub use one_copy::{OneCopy, latest_write_stays, replay};
+pub use one_copy::{OneCopy, replay};
+pub use reads::Unexplained;

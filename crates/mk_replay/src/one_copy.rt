@@ -1,8 +1,6 @@
 //! The one copy.
-ghost use Rattle.std.specs.Prelude.{◌≡◌, ℕ, List, IfOk};
-ghost use Rattle.mk_txn.specs.LatestWrites.{first_version, latest_write};
-ghost use Rattle.mk_txn.specs.Transactions.{Transaction};
-ghost use Rattle.mk_replay.specs.OneCopy.{HaveDistinctStamps, one_copy, version_in};
+ghost use Rattle.std.specs.Prelude.{◌≡◌, IfOk};
+ghost use Rattle.mk_model.specs.OneCopy.{HaveDistinctStamps, one_copy};
 
 use crate::order::by_stamp;
 use mk_txn::{NoMemory, Stamp, Txn, Value, WriteItem};
@@ -11,13 +9,13 @@ use std::collections::BTreeMap;
 use std::marker::Model;
 
 /// What each key that was written holds: its version, which is its writer's stamp, and its value.
-#[derive(Drop, Debug)]
+#[derive(Drop)]
 pub struct OneCopy {
     versions: BTreeMap<u32, (Stamp, Value)>,
 }
 
 impl Model for OneCopy {
-    ghost use Rattle.mk_replay.specs.OneCopy.{Copy};
+    ghost use Rattle.mk_model.specs.OneCopy.{Copy};
 
     ghost Value = { Copy };
 
@@ -26,7 +24,7 @@ impl Model for OneCopy {
 
 impl OneCopy {
     ghost use Rattle.std.specs.Prelude.{◌≡◌, [], OnOk};
-    ghost use Rattle.mk_replay.specs.OneCopy.{version_in, with_writes};
+    ghost use Rattle.mk_model.specs.OneCopy.{version_in, with_writes};
 
     // No key was written yet.
     pub(crate) fn new(alloc: Global) -> OneCopy
@@ -71,8 +69,3 @@ pub fn replay(alloc: Global, commits: &[Txn]) -> Result<OneCopy, NoMemory>
     }
     Ok(copy)
 }
-
-/// What the copy holds of a key is the latest write of it, in whatever order the commits are looked at.
-pub fn latest_write_stays()
-    ensures { (commits : List Transaction) (key : ℕ) → HaveDistinctStamps commits → version_in (one_copy commits) key ≡ latest_write key first_version commits }
-{}

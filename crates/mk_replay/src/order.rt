@@ -1,6 +1,7 @@
 //! Transactions in order of stamp.
 ghost use Rattle.std.specs.Prelude.{◌≡◌, IfOk, map};
-ghost use Rattle.mk_replay.specs.OneCopy.{HaveDistinctStamps, in_stamp_order};
+ghost use Rattle.mk_words.specs.Bases.{in_stamp_order};
+ghost use Rattle.mk_model.specs.OneCopy.{HaveDistinctStamps};
 
 use mk_txn::{NoMemory, Stamp, Txn};
 use std::alloc::Global;
@@ -15,7 +16,8 @@ pub(crate) fn by_stamp<'a>(
     ensures { IfOk result (λ ordered. map (λ entry. entry.1.now) ordered.entries ≡ in_stamp_order txns.now) }
 {
     let mut ordered = BTreeMap::new(alloc);
-    for txn in txns {
+    for place in (0..txns.len()).rev() {
+        let txn = &txns[place];
         ordered.insert(txn.stamp(), txn)?;
     }
     Ok(ordered)

@@ -1,12 +1,12 @@
 //! Reads, held against a copy.
 ghost use Rattle.std.specs.Prelude.{◌≡◌};
-ghost use Rattle.mk_replay.specs.Explained.{first_unlike, holds_read};
+ghost use Rattle.mk_model.specs.Explained.{first_unlike, holds_read};
 
 use crate::one_copy::OneCopy;
 use mk_txn::{ReadItem, TxnId};
 
 /// A read that the commits below its stamp do not explain: the attempt that made it, and the key.
-#[derive(Clone, Copy, Debug, PartialEq, Eq)]
+#[derive(Clone, Copy, PartialEq, Eq)]
 pub struct Unexplained {
     pub id: TxnId,
     pub key: u32,

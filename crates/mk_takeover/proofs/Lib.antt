@@ -1,3 +1,2 @@
 pub mod PickChanges
 pub mod PickCases
-mod PickRows

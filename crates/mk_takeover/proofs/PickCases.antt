@@ -9,9 +9,9 @@ use Rattle.mk_txn.specs.declared.Outcome.TheVariants.{Commit, Abort}
 use Rattle.mk_txn.specs.Outcomes.{highest}
 use Rattle.mk_quorum.specs.Sizes.{members, majority_of, block_of}
 use Rattle.mk_quorum.specs.Slots.{passes}
-use Rattle.mk_coord.proofs.SlotLists.{slots_counted}
-use Rattle.mk_takeover.specs.declared.Pick.TheVariants.{Propose, Learned, Short, Unaccepted, Unclear}
-use Rattle.mk_takeover.specs.Picks.{TakeoverState, by_promises, by_accepted, by_counts, by_accepts, is_promise, is_ok_promise, is_other_promise, accepted_in}
+use Rattle.mk_quorum.proofs.SlotLists.{slots_counted}
+use Rattle.mk_words.specs.declared.Pick.TheVariants.{Propose, Learned, Short, Unaccepted, Unclear}
+use Rattle.mk_words.specs.Picks.{TakeoverState, by_promises, by_accepted, by_counts, by_accepts, is_promise, is_ok_promise, is_other_promise, accepted_in}
 
 pub short : (f : ℕ) (takeover : TakeoverState) → length takeover.told ≡ members f →
     count_by (passes is_promise) takeover.told < majority_of f → by_promises f takeover ≡ Short (count_by (passes is_promise) takeover.told)

@@ -3,11 +3,11 @@ use Rattle.std.proofs.Common.{◌≡◌, ◌∙◌, ◌<◌, ◌≤◌, ℕ, ap,
 use Rattle.std.specs.Prelude.{Option, None}
 use Rattle.std.specs.Option.{option_or}
 use Rattle.mk_txn.specs.declared.Outcome.{Outcome}
-use Rattle.mk_msg.specs.declared.Told.{Told}
+use Rattle.mk_words.specs.declared.Told.{Told}
 use Rattle.mk_quorum.specs.Sizes.{members}
 use Rattle.mk_quorum.specs.Slots.{filled, empty_slots}
-use Rattle.mk_coord.proofs.SlotLists.{filled-take, empty-take}
-use Rattle.mk_takeover.specs.Picks.{seen_takeover, new_takeover, reply_counted, accept_counted}
+use Rattle.mk_quorum.proofs.SlotLists.{filled-take, empty-take}
+use Rattle.mk_words.specs.Picks.{seen_takeover, new_takeover, reply_counted, accept_counted}
 
 pub replied : (f view : ℕ) (told new : List (Option Told)) (accepts : List (Option Bool)) (proposed learned after : Option Outcome) (r : ℕ) (reply : Told) →
     r < members f → new ≡ filled told r reply → after ≡ option_or learned reply.last →

@@ -1,2 +1,1 @@
 -- Takeovers.
-pub mod Picks

@@ -2,10 +2,10 @@
 ghost use Rattle.std.specs.Prelude.{◌≡◌, count_by, map};
 ghost use Rattle.mk_txn.specs.Outcomes.{higher as higher_of, highest};
 ghost use Rattle.mk_quorum.specs.Slots.{passes};
-ghost use Rattle.mk_takeover.specs.Picks.{is_promise as promises, is_ok_promise as promises_ok, is_other_promise as promises_other, accepted_in as acceptance};
+ghost use Rattle.mk_words.specs.Picks.{is_promise as promises, is_ok_promise as promises_ok, is_other_promise as promises_other, accepted_in as acceptance};
 
-use mk_msg::Told;
 use mk_txn::{Accepted, Vote};
+use mk_words::Told;
 
 fn is_promise(reply: &Option<Told>) -> bool
     ensures { result ≡ passes promises reply.now }

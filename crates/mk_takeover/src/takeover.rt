@@ -1,19 +1,18 @@
 //! A takeover of an attempt by a backup coordinator.
 ghost use Rattle.std.specs.Prelude.{◌≡◌, ◌<◌, ◌≤◌, Some, length};
 ghost use Rattle.mk_quorum.specs.Sizes.{members};
-ghost use Rattle.mk_takeover.specs.declared.Pick.TheVariants.{Propose};
-ghost use Rattle.mk_takeover.specs.Picks.{new_takeover, reply_counted, accept_counted, takeover_proposed, takeover_taught, pick, by_promises as promises_pick, by_counts as counts_pick, by_accepts as accepts_pick};
+ghost use Rattle.mk_words.specs.declared.Pick.TheVariants.{Propose};
+ghost use Rattle.mk_words.specs.Picks.{new_takeover, reply_counted, accept_counted, takeover_proposed, takeover_taught, pick, by_promises as promises_pick, by_counts as counts_pick, by_accepts as accepts_pick};
 
 use crate::Pick;
 use crate::promising::{count_oks, count_others, count_promises, highest_accepted};
-use mk_coord::{count_accepts, fill};
-use mk_msg::Told;
-use mk_quorum::Size;
+use mk_quorum::{Size, count_accepts, fill};
 use mk_txn::{Cause, Outcome};
+use mk_words::Told;
 use std::marker::Model;
 
 /// What a takeover of one view took: replies, accepts of its proposal, and an outcome that it was taught.
-#[derive(Drop, Debug)]
+#[derive(Drop)]
 pub struct Takeover {
     size: Size,
     view: u32,
@@ -24,8 +23,8 @@ pub struct Takeover {
 }
 
 impl Model for Takeover {
-    ghost use Rattle.mk_coord.specs.Rulings.{HasSlots};
-    ghost use Rattle.mk_takeover.specs.Picks.{SizedTakeover, seen_takeover};
+    ghost use Rattle.mk_words.specs.Rulings.{HasSlots};
+    ghost use Rattle.mk_words.specs.Picks.{SizedTakeover, seen_takeover};
 
     ghost Value = { SizedTakeover };
 
@@ -41,8 +40,8 @@ impl Takeover {
         ensures faults { result.faults ≡ size }
         ensures state { result.state ≡ new_takeover size view }
     {
-        // at most 3, so that seven slots are enough
-        let _ = size.f();
+        // so that seven slots are enough
+        prove!(size.f() <= 3);
         Takeover {
             size,
             view,

@@ -1,2 +1,1 @@
 pub mod ProgressLaws
-mod ValidationRows

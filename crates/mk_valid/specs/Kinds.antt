@@ -4,11 +4,11 @@ use Rattle.mk_txn.specs.declared.Stamp.{Stamp}
 use Rattle.mk_txn.specs.declared.ReadItem.{ReadItem}
 use Rattle.mk_txn.specs.declared.WriteItem.{WriteItem}
 use Rattle.mk_txn.specs.Transactions.{Transaction}
-use Rattle.mk_cell.specs.declared.Act.{Act}
-use Rattle.mk_cell.specs.declared.Act.TheVariants.{CheckRead, CheckWrite, CommitRead, CommitWrite, ReleaseRead, ReleaseWrite}
+use Rattle.mk_words.specs.declared.Act.{Act}
+use Rattle.mk_words.specs.declared.Act.TheVariants.{CheckRead, CheckWrite, CommitRead, CommitWrite, ReleaseRead, ReleaseWrite}
 use Rattle.mk_valid.specs.declared.acts.Kind.{Kind}
 use Rattle.mk_valid.specs.declared.acts.Kind.TheVariants.{Check, Commit, Release}
-use Rattle.mk_valid.specs.Checks.{KeyAct, checks, commits_of, releases_of}
+use Rattle.mk_words.specs.Checks.{KeyAct, checks, commits_of, releases_of}
 
 -- what is done at a key that was read
 abbrev pub read_act_of : Kind → Stamp → ReadItem → Act

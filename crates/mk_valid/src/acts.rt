@@ -1,10 +1,10 @@
 //! The acts of a transaction, in order: those at the keys that it read, and then those at the keys that it writes.
 ghost use Rattle.std.specs.Prelude.{◌≡◌, ◌++◌, map, OnOk, IfOk};
-ghost use Rattle.mk_valid.specs.Checks.{finish_acts, release_of};
+ghost use Rattle.mk_words.specs.Checks.{finish_acts, release_of};
 ghost use Rattle.mk_valid.specs.Kinds.{read_act_of, write_act_of, acts_of_kind};
 
-use mk_cell::Act;
 use mk_txn::{NoMemory, Outcome, ReadItem, Stamp, Txn, WriteItem};
+use mk_words::Act;
 use std::alloc::Global;
 
 /// What is done at each key of a transaction.

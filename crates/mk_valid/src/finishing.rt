@@ -1,16 +1,16 @@
 //! The end of a transaction at a replica, one act at a time.
 ghost use Rattle.std.specs.Prelude.{◌≡◌, IfOk};
-ghost use Rattle.mk_valid.specs.Checks.{finish_acts};
-ghost use Rattle.mk_valid.specs.Validations.{first_of, rest_of};
+ghost use Rattle.mk_words.specs.Checks.{finish_acts};
+ghost use Rattle.mk_words.specs.Validations.{first_of, rest_of};
 
 use crate::acts::finish_of;
-use mk_cell::{Act, Answer};
 use mk_txn::{NoMemory, Outcome, Txn};
+use mk_words::{Act, Answer};
 use std::alloc::Global;
 use std::marker::Model;
 
 /// The acts that commit or give up a transaction at a replica's keys.
-#[derive(Drop, Debug)]
+#[derive(Drop)]
 pub struct Finishing {
     acts: Vec<(u32, Act)>,
     done: usize,
@@ -18,7 +18,7 @@ pub struct Finishing {
 
 impl Model for Finishing {
     ghost use Rattle.std.specs.Prelude.{List, drop};
-    ghost use Rattle.mk_valid.specs.Checks.{KeyAct};
+    ghost use Rattle.mk_words.specs.Checks.{KeyAct};
 
     ghost Value = { List KeyAct };
 

@@ -1,16 +1,16 @@
 //! A validation, one act at a time.
 ghost use Rattle.std.specs.Prelude.{◌≡◌, IfOk};
-ghost use Rattle.mk_valid.specs.Validations.{validation_of, next_act as next_of, after_answer, vote_so_far};
+ghost use Rattle.mk_words.specs.Validations.{validation_of, next_act as next_of, after_answer, vote_so_far};
 
 use crate::acts::{Kind, acts_of, release};
-use mk_cell::{Act, Answer};
 use mk_txn::{Conflict, NoMemory, Txn, Vote};
+use mk_words::{Act, Answer};
 use std::alloc::Global;
 use std::marker::Model;
 
 /// The checks of a transaction at a replica's keys up to the first refusal, then a release of each check that was
 /// passed, in their order.
-#[derive(Drop, Debug)]
+#[derive(Drop)]
 pub struct Validation {
     checks: Vec<(u32, Act)>,
     passed: usize,
@@ -19,7 +19,7 @@ pub struct Validation {
 }
 
 impl Model for Validation {
-    ghost use Rattle.mk_valid.specs.Validations.{ValidationState};
+    ghost use Rattle.mk_words.specs.Validations.{ValidationState};
     ghost use Rattle.mk_valid.specs.Progress.{validation_at};
 
     ghost Value = { ValidationState };
@@ -75,8 +75,7 @@ impl Validation {
                                 stamp,
                             });
                         }
-                        Answer::Version { .. } => {}
-                        Answer::Done => {}
+                        Answer::Version { .. } | Answer::Done => {}
                     }
                 }
             }

@@ -1,5 +1,5 @@
 use Rattle.std.proofs.Common.{◌∙◌, sym, ap, arith}
-use Rattle.mk_coord.specs.declared.Ruling.TheVariants.{Unaccepted}
+use Rattle.mk_words.specs.declared.Ruling.TheVariants.{Unaccepted}
 use Rattle.mk_coord.proofs.RulingCases.{learned, unaccepted}
 use Rattle.mk_coord.proofs.coord.by_accepts.Goals as goal
 

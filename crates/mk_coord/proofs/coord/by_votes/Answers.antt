@@ -1,5 +1,5 @@
 use Rattle.std.proofs.Common.{◌∙◌, sym, ap, arith}
-use Rattle.mk_coord.specs.declared.Ruling.TheVariants.{Fast, Short, Propose}
+use Rattle.mk_words.specs.declared.Ruling.TheVariants.{Fast, Short, Propose}
 use Rattle.mk_coord.proofs.RulingCases.{fast_commit, fast_abort, short, propose_commit, propose_abort}
 use Rattle.mk_coord.proofs.coord.by_votes.Goals as goal
 

@@ -15,4 +15,4 @@ loop-rest-preserved g c =
     let (taken, split, appended, falls) = c.loop-rest.invariant in
     let rest = c.loop-rest.rest.now in
     let n = c.in_ok-count.count in
-    (taken ++ take n rest, split-more _ taken rest n split, Appends-trans _ _ _ _ _ appended c.in_ok-count.ensures.bytes, omega (arith, falls, c.write.ensures.never_falls))
+    (taken ++ take n rest, split-more _ taken rest n split, Appends-trans _ _ _ _ _ appended c.in_ok-count.ensures.bytes, omega (arith, falls, c.in_ok-count.ensures.no_fault))

@@ -1,6 +1,6 @@
 use Rattle.std.proofs.Common.{◌≡◌, ◌≤◌, take, count_by}
 use Rattle.mk_quorum.specs.Slots.{passes}
-use Rattle.mk_takeover.specs.Picks.{is_other_promise}
+use Rattle.mk_words.specs.Picks.{is_other_promise}
 use Rattle.mk_takeover.proofs.promising.count_others.Given as goal
 
 abbrev pub invariant-loop-reply : goal.invariant-loop-reply

@@ -1,6 +1,6 @@
 use Rattle.std.proofs.Common.{◌≡◌, drop, map}
 use Rattle.mk_txn.specs.Outcomes.{higher, highest}
-use Rattle.mk_takeover.specs.Picks.{accepted_in}
+use Rattle.mk_words.specs.Picks.{accepted_in}
 use Rattle.mk_takeover.proofs.promising.highest_accepted.Given as goal
 
 abbrev pub invariant-loop-reply : goal.invariant-loop-reply

@@ -1,5 +1,5 @@
 use Rattle.std.proofs.Common.{◌∙◌, sym, ap, arith}
-use Rattle.mk_takeover.specs.declared.Pick.TheVariants.{Unaccepted}
+use Rattle.mk_words.specs.declared.Pick.TheVariants.{Unaccepted}
 use Rattle.mk_takeover.proofs.PickCases.{learned, unaccepted}
 use Rattle.mk_takeover.proofs.takeover.by_accepts.Goals as goal
 

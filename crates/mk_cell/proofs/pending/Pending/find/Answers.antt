@@ -1,6 +1,6 @@
 use Rattle.std.proofs.Common.{◌≡◌, suc, ◌-◌, true, false, ◌∙◌, sym, ap, subst, arith}
 use Rattle.std.specs.Prelude.{insert}
-use Rattle.mk_cell.specs.Pending.{IsAscending, has_stamp}
+use Rattle.mk_words.specs.Pending.{IsAscending, has_stamp}
 use Rattle.mk_cell.specs.Searching.{place_above}
 use Rattle.mk_cell.proofs.PlaceLaws.{place_above-within, has_stamp-nowhere, has_stamp-here, joined-there, joined-new, without-none, without-there}
 use Rattle.mk_cell.proofs.pending.Pending.find.Goals as goal

@@ -1,6 +1,6 @@
 use Rattle.std.proofs.Common.{◌≡◌, sym, subst, rules}
-use Rattle.mk_cell.specs.Pending.{IsAscending, joined}
-use Rattle.mk_cell.proofs.PendingLaws.{IsAscending-joined}
+use Rattle.mk_words.specs.Pending.{IsAscending, joined}
+use Rattle.mk_words.proofs.PendingLaws.{IsAscending-joined}
 use Rattle.mk_cell.proofs.pending.Pending.join.Goals as goal
 
 pub invariant_of-self : goal.invariant_of-self

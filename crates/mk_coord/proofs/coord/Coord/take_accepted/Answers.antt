@@ -1,5 +1,5 @@
 use Rattle.std.proofs.Common.{◌≡◌, ap, arith, subst}
-use Rattle.mk_coord.specs.Rulings.{seen_coord, accept_counted}
+use Rattle.mk_words.specs.Rulings.{seen_coord, accept_counted}
 use Rattle.mk_coord.proofs.CoordChanges.{accepted}
 use Rattle.mk_coord.proofs.coord.Coord.take_accepted.Goals as goal
 

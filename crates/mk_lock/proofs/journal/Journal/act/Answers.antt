@@ -1,6 +1,6 @@
 use Rattle.std.proofs.Common.{ap, sym, ◌∙◌}
-use Rattle.mk_cell.specs.Cells.{CellState, cell_answer}
-use Rattle.mk_cell.proofs.JournalLaws.{Replays-pushed}
+use Rattle.mk_words.specs.Cells.{CellState, cell_answer}
+use Rattle.mk_words.proofs.JournalLaws.{Replays-pushed}
 use Rattle.mk_lock.proofs.journal.Journal.act.Goals as goal
 
 pub invariant_of-self-2 : goal.invariant_of-self-2

@@ -1,6 +1,6 @@
 use Rattle.std.proofs.Common.{◌≡◌, List, [], ◌∷◌, ◌++◌, arith, ap, ◌∙◌, sym, subst}
 use Rattle.atomic_table.specs.Table.{opening}
-use Rattle.mk_cell.specs.Cells.{CellView}
+use Rattle.mk_words.specs.Cells.{CellView}
 use Rattle.mk_lock.specs.declared.view.Origin.{Origin}
 use Rattle.mk_lock.specs.Entries.{JournalState}
 use Rattle.mk_lock.specs.Turns.{IsKept, begins, kept}

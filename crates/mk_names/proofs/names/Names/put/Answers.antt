@@ -2,7 +2,7 @@ use Rattle.std.proofs.Common.{◌≡◌, ◌<◌, ◌++◌, ◌∷◌, [], refl,
 use Rattle.std.specs.String.{string_bytes, string_eq}
 use Rattle.std.specs.List.{list_any}
 use Rattle.std.proofs.lemmas.List.{map_push}
-use Rattle.mk_text.specs.Fields.{place}
+use Rattle.mk_spelling.specs.Fields.{place}
 use Rattle.mk_names.specs.NameLists.{NameList, IsNameList}
 use Rattle.mk_names.proofs.Places.{none_is_new}
 use Rattle.mk_names.proofs.NameLaws.{pushed}

@@ -1,15 +1,19 @@
-use Rattle.std.proofs.Common.{ap, ◌∙◌, refl}
-use Rattle.mk_record.specs.Entries.{change_entry, with_promise}
-use Rattle.mk_record.proofs.IndexLaws.{written-changes, IsIndexed-changed}
+use Rattle.std.proofs.Common.{ap, ◌∙◌}
+use Rattle.mk_txn.specs.Transactions.{same_id}
+use Rattle.mk_txn.proofs.IdOrder.{same_id-tells, same_id-itself}
+use Rattle.mk_words.specs.declared.Entry.{Entry}
+use Rattle.mk_words.specs.Entries.{change_entry, with_promise}
+use Rattle.mk_lists.proofs.KeyedLists.{IsIndex-written, written-changes}
 use Rattle.mk_record.proofs.record.CoreRecord.promise.Goals as goal
 
 pub invariant_of-self : goal.invariant_of-self
 invariant_of-self c =
-    let f = with_promise c.args.view in
-    let items = c.self.inside.entries.items in
-    IsIndexed-changed c.args.id f (λ entry. refl) items _ _ (written-changes c.args.id f items c.args.self.now c.place-place.result c.index_mut.result.now c.self.view_is c.index_mut.ensures.value c.place-place.ensures.changed) c.self.invariant
+    let entry = c.index_mut.result.now in
+    IsIndex-written same_id (λ (e : Entry). e.txn.id) same_id-tells same_id-itself c.self.inside.entries.items c.self.inside.ids.keys c.place-place.result (with_promise c.args.view entry) entry
+    (ap (λ (e : Entry). e.txn.id) c.index_mut.ensures.value) c.self.invariant
 
 pub returns-clause-ok : goal.returns-clause-ok
 returns-clause-ok c =
-    let f = with_promise c.args.view in
-    written-changes c.args.id f c.self.inside.entries.items c.args.self.now c.place-place.result c.index_mut.result.now c.self.view_is c.index_mut.ensures.value c.place-place.ensures.changed ∙ ap (change_entry c.args.id f) c.self.view_is
+    let items = c.self.inside.entries.items in
+    written-changes same_id (λ (e : Entry). e.txn.id) same_id-tells same_id-itself c.args.id (with_promise c.args.view) items c.args.self.now c.place-place.result c.index_mut.result.now c.self.view_is
+    c.index_mut.ensures.value c.place-place.ensures.changed ∙ ap (change_entry c.args.id (with_promise c.args.view)) c.self.view_is

@@ -1,7 +1,7 @@
 use Rattle.std.proofs.Common.{◌≡◌, ap, Some, None}
 use Rattle.mk_txn.specs.LatestWrites.{VersionedValue}
-use Rattle.mk_replay.specs.OneCopy.{version_in}
-use Rattle.mk_replay.proofs.Copies.{held_or_first, version_in-found}
+use Rattle.mk_model.specs.OneCopy.{version_in}
+use Rattle.mk_model.proofs.Copies.{held_or_first, version_in-found}
 use Rattle.mk_replay.proofs.one_copy.OneCopy.get.Goals as goal
 
 there : (c : goal.After-result-1) → held_or_first (Some c.in-Some.held.now) ≡ version_in c.args.self.now c.args.key

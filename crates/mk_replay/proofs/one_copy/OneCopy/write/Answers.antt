@@ -1,7 +1,7 @@
 use Rattle.std.proofs.Common.{◌∙◌}
 use Rattle.mk_txn.specs.declared.Value.TheVariants.{Number}
 use Rattle.mk_txn.specs.declared.WriteItem.{WriteItem}
-use Rattle.mk_replay.proofs.Copies.{with_writes-at}
+use Rattle.mk_model.proofs.Copies.{with_writes-at}
 use Rattle.mk_replay.proofs.one_copy.OneCopy.write.Goals as goal
 
 past_end : WriteItem

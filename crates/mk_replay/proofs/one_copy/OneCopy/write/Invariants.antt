@@ -1,5 +1,5 @@
 use Rattle.std.proofs.Common.{◌≡◌, drop}
-use Rattle.mk_replay.specs.OneCopy.{with_writes}
+use Rattle.mk_model.specs.OneCopy.{with_writes}
 use Rattle.mk_replay.proofs.one_copy.OneCopy.write.Given as goal
 
 -- with the writes that are left it comes to all of them

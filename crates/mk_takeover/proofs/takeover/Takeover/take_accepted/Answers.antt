@@ -1,5 +1,5 @@
 use Rattle.std.proofs.Common.{◌≡◌, ap, arith, subst}
-use Rattle.mk_takeover.specs.Picks.{seen_takeover, accept_counted}
+use Rattle.mk_words.specs.Picks.{seen_takeover, accept_counted}
 use Rattle.mk_takeover.proofs.PickChanges.{accepted}
 use Rattle.mk_takeover.proofs.takeover.Takeover.take_accepted.Goals as goal
 

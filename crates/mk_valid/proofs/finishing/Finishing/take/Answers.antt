@@ -1,5 +1,5 @@
 use Rattle.std.proofs.Common.{◌∙◌, sym, ap, drop, add-one}
-use Rattle.mk_valid.specs.Validations.{rest_of}
+use Rattle.mk_words.specs.Validations.{rest_of}
 use Rattle.mk_valid.proofs.ProgressLaws.{rest_of-drop}
 use Rattle.mk_valid.proofs.finishing.Finishing.take.Goals as goal
 

@@ -22,9 +22,9 @@ use Rattle.mk_lock.specs.contracts.lock.KeyLock.{the_row as lock_row}
 use Rattle.mk_lock.specs.contracts.lock.KeyLock.TheInside.{the_row as inside_row, the_type as inside_type}
 use Rattle.mk_cell.specs.contracts.pending.Pending.{the_row as pending_row}
 use Rattle.mk_cell.specs.contracts.cell.Cell.{the_row as cell_row}
-use Rattle.mk_cell.specs.contracts.JournalEntry.{the_row as entry_row, the_type as entry_type}
-use Rattle.mk_cell.specs.contracts.Act.{the_type as act_type}
-use Rattle.mk_cell.specs.contracts.Answer.{the_type as answer_type}
+use Rattle.mk_words.specs.contracts.JournalEntry.{the_row as entry_row, the_type as entry_type}
+use Rattle.mk_words.specs.contracts.Act.{the_type as act_type}
+use Rattle.mk_words.specs.contracts.Answer.{the_type as answer_type}
 use Rattle.mk_txn.specs.contracts.Stamp.{the_row as stamp_row, the_type as stamp_type}
 use Rattle.mk_txn.specs.contracts.Value.{the_field as value_field}
 
