@@ -4,7 +4,7 @@ use Rattle.std.specs.Prelude.{find, option_map, is_none}
 use Rattle.std.specs.Map.{lookup}
 use Rattle.std.proofs.lemmas.Bool.Decides.{nat_tests}
 use Rattle.mk_txn.specs.declared.TxnId.{TxnId}
-use Rattle.mk_msg.specs.declared.MsgKind.{MsgKind}
+use Rattle.mk_words.specs.declared.MsgKind.{MsgKind}
 use Rattle.mk_script.specs.declared.lines.FaultLine.{FaultLine}
 use Rattle.mk_script.specs.declared.lines.StopLine.{StopLine}
 use Rattle.mk_script.specs.declared.lines.Point.{Point}
@@ -62,7 +62,8 @@ module _ {K L V : Type 0} (same : K → K → Bool) (tells : (a b : K) → same 
       pushed : option_map value (find (λ l. same (key l) q) (lines ++ line ∷ [])) ≡ option_map value (cond (is_none found) (cond (same (key line) q) (Some line) None) found)
       pushed = ap (option_map value) (find-push (λ l. same (key l) q) lines line)
 
-      by : (b : Bool) → same (key line) q ≡ b → (o : Option V) → lookup (same (key line)) old ≡ o → lookup (same q) new ≡ option_map value (find (λ l. same (key l) q) (lines ++ line ∷ []))
+      by : (b : Bool) → same (key line) q ≡ b → (o : Option V) → lookup (same (key line)) old ≡ o
+          → lookup (same q) new ≡ option_map value (find (λ l. same (key l) q) (lines ++ line ∷ []))
       by true e None k =
           let none : found ≡ None = none_of found (sym (were q) ∙ ap (λ (x : K). lookup (same x) old) (sym (tells (key line) q e)) ∙ k) in
           puts q ∙ ap (λ (o : Option V). cond (is_none o && same (key line) q) (Some (value line)) (lookup (same q) old)) k
@@ -95,7 +96,8 @@ is_fault_of-target : (kind : MsgKind) (id : TxnId) (replica nth : ℕ) (line : F
     same_target (target_in line) (target_of kind id replica nth) ≡ is_fault_of kind id replica nth line
 is_fault_of-target kind id replica nth line = grind (arith, nat_tests)
 
-pub AreFates-more : (faults : List FaultLine) (line : FaultLine) (old new : List (Target × Fate)) → AreFates faults old → KeepsFate (target_in line) line.fate old new →
+pub AreFates-more : (faults : List FaultLine) (line : FaultLine) (old new : List (Target × Fate)) → AreFates faults old
+    → KeepsFate (target_in line) line.fate old new →
     AreFates (faults ++ line ∷ []) new
 AreFates-more faults line old new were keeps = index_more same_target same_target-tells target_in (λ l. l.fate) faults line old new were keeps
 
@@ -118,7 +120,8 @@ same_coordinator-tells a b h =
 is_stop_of-coordinator : (id : TxnId) (line : StopLine) → same_coordinator (coordinator_in line) (coordinator_of id) ≡ is_stop_of id line
 is_stop_of-coordinator id line = grind (arith, nat_tests)
 
-pub ArePoints-more : (stops : List StopLine) (line : StopLine) (old new : List (Coordinator × Point)) → ArePoints stops old → KeepsPoint (coordinator_in line) line.point old new →
+pub ArePoints-more : (stops : List StopLine) (line : StopLine) (old new : List (Coordinator × Point)) → ArePoints stops old
+    → KeepsPoint (coordinator_in line) line.point old new →
     ArePoints (stops ++ line ∷ []) new
 ArePoints-more stops line old new were keeps = index_more same_coordinator same_coordinator-tells coordinator_in (λ l. l.point) stops line old new were keeps
 

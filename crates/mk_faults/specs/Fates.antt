@@ -3,9 +3,9 @@ use Rattle.std.specs.Prelude.{ℕ, Bool, ◌&&◌, ◌==◌, List, [], ◌∷◌
 use Rattle.std.specs.Option.{unwrap_or}
 use Rattle.mk_txn.specs.declared.TxnId.{TxnId}
 use Rattle.mk_txn.specs.Transactions.{same_id}
-use Rattle.mk_msg.specs.declared.Msg.{Msg}
-use Rattle.mk_msg.specs.declared.MsgKind.{MsgKind}
-use Rattle.mk_msg.specs.Links.{kind_of, same_kind, message, place_of}
+use Rattle.mk_words.specs.declared.Msg.{Msg}
+use Rattle.mk_words.specs.declared.MsgKind.{MsgKind}
+use Rattle.mk_words.specs.Links.{kind_of, same_kind, message, place_of}
 use Rattle.mk_script.specs.declared.lines.FaultLine.{FaultLine}
 use Rattle.mk_script.specs.declared.lines.StopLine.{StopLine}
 use Rattle.mk_script.specs.declared.lines.Point.{Point}

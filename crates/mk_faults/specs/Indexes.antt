@@ -2,8 +2,8 @@
 use Rattle.std.specs.Prelude.{◌≡◌, ℕ, Bool, ◌&&◌, ◌==◌, List, Some, find, is_none, option_map, if◌then◌else◌}
 use Rattle.std.specs.Map.{lookup}
 use Rattle.mk_txn.specs.declared.TxnId.{TxnId}
-use Rattle.mk_msg.specs.declared.MsgKind.{MsgKind}
-use Rattle.mk_msg.specs.Links.{kind_number}
+use Rattle.mk_words.specs.declared.MsgKind.{MsgKind}
+use Rattle.mk_words.specs.Links.{kind_number}
 use Rattle.mk_script.specs.declared.lines.FaultLine.{FaultLine}
 use Rattle.mk_script.specs.declared.lines.StopLine.{StopLine}
 use Rattle.mk_script.specs.declared.lines.Point.{Point}

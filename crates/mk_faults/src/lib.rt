@@ -2,7 +2,5 @@
 #![tactic(auto)]
 
 mod rules;
-#[cfg(test)]
-mod tests;
 
 pub use rules::Rules;

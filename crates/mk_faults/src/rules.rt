@@ -3,15 +3,15 @@ ghost use Rattle.std.specs.Prelude.{◌≡◌, [], ◌∷◌, ◌++◌, OnOk, On
 ghost use Rattle.mk_faults.specs.Fates.{fate_of as fate_by, stop_of as stop_by, rules_of, with_fault, with_stop};
 ghost use Rattle.mk_faults.specs.Indexes.{KeepsFate, KeepsPoint};
 
-use mk_msg::MsgKind;
 use mk_script::{Fate, FaultLine, Point, Script, StopLine};
 use mk_txn::{NoMemory, TxnId};
+use mk_words::MsgKind;
 use std::alloc::Global;
 use std::collections::HashMap;
 use std::marker::Model;
 
 // What a fault line is about: the message of this place among those of its kind, attempt and replica.
-#[derive(Clone, Copy, Debug, PartialEq, Eq, Hash)]
+#[derive(Clone, Copy, PartialEq, Eq, Hash)]
 struct Target {
     kind: u8,
     client: u32,
@@ -37,7 +37,7 @@ impl Target {
 }
 
 // What a stop line is about.
-#[derive(Clone, Copy, Debug, PartialEq, Eq, Hash)]
+#[derive(Clone, Copy, PartialEq, Eq, Hash)]
 struct Coordinator {
     client: u32,
     seq: u32,
@@ -85,7 +85,7 @@ fn keep_point(
 }
 
 /// The fault lines and stop lines of a script.
-#[derive(Drop, Debug)]
+#[derive(Drop)]
 pub struct Rules {
     faults: Vec<FaultLine>,
     stops: Vec<StopLine>,

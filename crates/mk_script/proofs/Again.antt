@@ -3,18 +3,18 @@ use Rattle.std.proofs.Common.{◌≡◌, ◌≢◌, ℕ, zero, suc, ◌*◌, ◌
 use Rattle.std.specs.Fmt.{decimal}
 use Rattle.std.specs.List.{list_any, join_with_byte, AllByRecursion}
 use Rattle.std.proofs.lemmas.Fmt.{decimal_digit, decimal_nonempty}
-use Rattle.mk_text.specs.Words.{words, cut, is_name, is_printable, is_empty}
-use Rattle.mk_text.specs.Fields.{named}
-use Rattle.mk_text.proofs.Cuts.{Lacks, Lacks-name, Lacks-append, cut-parts}
-use Rattle.mk_text.proofs.Numbers.{number-again, Lacks-decimal}
-use Rattle.mk_text.proofs.Joins.{words_joined}
+use Rattle.mk_spelling.specs.Words.{words, cut, is_name, is_printable, is_empty}
+use Rattle.mk_spelling.specs.Fields.{named}
+use Rattle.mk_spelling.proofs.Cuts.{Lacks, Lacks-name, Lacks-append, cut-parts}
+use Rattle.mk_spelling.proofs.Numbers.{number-again, Lacks-decimal}
+use Rattle.mk_spelling.proofs.Joins.{words_joined}
 use Rattle.mk_txn.specs.declared.TxnId.{TxnId}
 use Rattle.mk_proc.specs.declared.ProcKind.{ProcKind}
 use Rattle.mk_proc.specs.declared.ProcKind.TheVariants as procs
-use Rattle.mk_msg.specs.declared.MsgKind.{MsgKind}
-use Rattle.mk_msg.specs.declared.MsgKind.TheVariants as kinds
-use Rattle.mk_global.specs.declared.GlobalLine.{GlobalLine}
-use Rattle.mk_global.specs.declared.GlobalLine.TheVariants as globals
+use Rattle.mk_words.specs.declared.MsgKind.{MsgKind}
+use Rattle.mk_words.specs.declared.MsgKind.TheVariants as kinds
+use Rattle.mk_words.specs.declared.GlobalLine.{GlobalLine}
+use Rattle.mk_words.specs.declared.GlobalLine.TheVariants as globals
 use Rattle.mk_script.specs.declared.words.Keyword.{Keyword}
 use Rattle.mk_script.specs.declared.words.Keyword.TheVariants as keywords
 use Rattle.mk_script.specs.declared.lines.Fate.{Fate}
@@ -109,7 +109,8 @@ proc_lacks procs.Max = (refl, (refl, (refl, tt)))
 IsWord-mention : (version : ℕ) (m : Mention) → IsMention version m → IsWord (mention_text m)
 IsWord-mention version (Reads key) h = record { lacks = (refl, (refl, Lacks-name key 32 h.well_named refl)); some = refl }
 IsWord-mention version (Deletes key) h = record { lacks = (refl, (refl, Lacks-name key 32 h.well_named refl)); some = refl }
-IsWord-mention version (Writes key n) h = record { lacks = (refl, (refl, Lacks-append 32 key (61 ∷ decimal n) (Lacks-name key 32 h.well_named refl) (refl, Lacks-decimal n 32 h.fits refl))); some = refl }
+IsWord-mention version (Writes key n) h =
+    record { lacks = (refl, (refl, Lacks-append 32 key (61 ∷ decimal n) (Lacks-name key 32 h.well_named refl) (refl, Lacks-decimal n 32 h.fits refl))); some = refl }
 IsWord-mention version (Computes key proc n) h = record {
   lacks = (
     refl,
@@ -129,20 +130,26 @@ words_mentions version (m ∷ ms) h = (IsWord-mention version m h.0, words_menti
 global_are_words : (size : ℕ) (line : GlobalLine) → size ≤ 3 → GlobalFits size line → AllByRecursion IsWord (global_words line)
 global_are_words size (globals.Wipe replica) sized h = (IsWord-keyword keywords.Wipe, (IsWord-decimal replica (omega (arith, h)), tt))
 global_are_words size (globals.Ask epoch) sized h = (IsWord-keyword keywords.Ask, (IsWord-decimal epoch (omega (arith, h.1)), tt))
-global_are_words size (globals.Promise epoch replica) sized h = (IsWord-keyword keywords.Promise, (IsWord-decimal epoch (omega (arith, h.1)), (IsWord-decimal replica (omega (arith, h.2)), tt)))
+global_are_words size (globals.Promise epoch replica) sized h =
+    (IsWord-keyword keywords.Promise, (IsWord-decimal epoch (omega (arith, h.1)), (IsWord-decimal replica (omega (arith, h.2)), tt)))
 global_are_words size (globals.Merge epoch) sized h = (IsWord-keyword keywords.Merge, (IsWord-decimal epoch (omega (arith, h.1)), tt))
-global_are_words size (globals.Adopt epoch replica) sized h = (IsWord-keyword keywords.Adopt, (IsWord-decimal epoch (omega (arith, h.1)), (IsWord-decimal replica (omega (arith, h.2)), tt)))
+global_are_words size (globals.Adopt epoch replica) sized h =
+    (IsWord-keyword keywords.Adopt, (IsWord-decimal epoch (omega (arith, h.1)), (IsWord-decimal replica (omega (arith, h.2)), tt)))
 global_are_words size (globals.Enter epoch) sized h = (IsWord-keyword keywords.Enter, (IsWord-decimal epoch (omega (arith, h.1)), tt))
 
 line_are_words : (s : State) (line : Line) → s.size ≤ 3 → Fits s line → AllByRecursion IsWord (line_words line)
 line_are_words s (Opens v) sized h = (IsWord-keyword keywords.Meerkat, (IsWord-decimal v (omega (arith, h.2)), tt))
 line_are_words s (Sizes f) sized h = (IsWord-keyword keywords.Size, (IsWord-decimal f (omega (arith, h.2)), tt))
-line_are_words s (Declares name column home) sized h = (IsWord-keyword keywords.Client, (IsWord-name name h.well_named, (IsWord-decimal column (omega (arith, h.column_fits)), (IsWord-decimal home (omega (arith, h.home_fits)), tt))))
+line_are_words s (Declares name column home) sized h =
+    (IsWord-keyword keywords.Client, (IsWord-name name h.well_named, (IsWord-decimal column (omega (arith, h.column_fits)), (IsWord-decimal home (omega (arith, h.home_fits)), tt))))
 line_are_words s (Retries n) sized h = (IsWord-keyword keywords.Retry, (IsWord-decimal n (omega (arith, h.1)), tt))
-line_are_words s (Injects name fault) sized h = (IsWord-keyword keywords.Fault, (IsWord-kind fault.kind, (IsWord-id s name fault.id h.attempt, (IsWord-decimal fault.replica (omega (arith, h.replica_fits)), (IsWord-decimal fault.nth (omega (arith, h.nth_high)), (IsWord-fate fault.fate, tt))))))
+line_are_words s (Injects name fault) sized h =
+    (IsWord-keyword keywords.Fault, (IsWord-kind fault.kind, (IsWord-id s name fault.id h.attempt, (IsWord-decimal fault.replica (omega (arith, h.replica_fits)), (IsWord-decimal fault.nth (omega (arith, h.nth_high)), (IsWord-fate fault.fate, tt))))))
 line_are_words s (Halts name stop) sized h = (IsWord-keyword keywords.Stop, (IsWord-id s name stop.id h.attempt, (IsWord-point stop.point, tt)))
-line_are_words s (Tries name client clock ms) sized h = (IsWord-keyword keywords.Txn, (IsWord-name name h.well_named, (IsWord-decimal clock (omega (arith, h.clock_fits)), words_mentions s.version ms h.mentions_fit)))
-line_are_words s (TakesOver name id view) sized h = (IsWord-keyword keywords.Takeover, (IsWord-id s name id h.attempt, (IsWord-decimal view (omega (arith, h.view_high)), tt)))
+line_are_words s (Tries name client clock ms) sized h =
+    (IsWord-keyword keywords.Txn, (IsWord-name name h.well_named, (IsWord-decimal clock (omega (arith, h.clock_fits)), words_mentions s.version ms h.mentions_fit)))
+line_are_words s (TakesOver name id view) sized h =
+    (IsWord-keyword keywords.Takeover, (IsWord-id s name id h.attempt, (IsWord-decimal view (omega (arith, h.view_high)), tt)))
 line_are_words s (Changes line) sized h = global_are_words s.size line sized h.fits
 line_are_words s NextRound sized h = (IsWord-keyword keywords.Round, tt)
 
@@ -198,36 +205,47 @@ abbrev words_behind : List (List ℕ) → List (List ℕ)
 words_behind [] = []
 words_behind (w ∷ ws) = ws
 
-fault-again : (s : State) (name : List ℕ) (fault : FaultLine) → s.size ≤ 3 → IsFault s name fault → fault_result s (words_behind (line_words (Injects name fault))) ≡ Ok (after s (Injects name fault))
+fault-again : (s : State) (name : List ℕ) (fault : FaultLine) → s.size ≤ 3 → IsFault s name fault
+    → fault_result s (words_behind (line_words (Injects name fault))) ≡ Ok (after s (Injects name fault))
 fault-again s name fault sized h =
     rw (id-cut s name fault.id h.attempt, h.section, kind_again fault.kind, attempt-again s name fault.id h.attempt, number-again 0 (2 * s.size) fault.replica (omega arith) (omega arith) h.replica_fits, number-again 1 255 fault.nth (omega arith) h.nth_low h.nth_high, fate_again fault.fate h.injected, is_below _ 1024 h.few, false_test _ h.fresh) refl
 
-stop-again : (s : State) (name : List ℕ) (stop : StopLine) → IsStop s name stop → stop_result s (words_behind (line_words (Halts name stop))) ≡ Ok (after s (Halts name stop))
+stop-again : (s : State) (name : List ℕ) (stop : StopLine) → IsStop s name stop
+    → stop_result s (words_behind (line_words (Halts name stop))) ≡ Ok (after s (Halts name stop))
 stop-again s name stop h =
     rw (id-cut s name stop.id h.attempt, h.section, attempt-again s name stop.id h.attempt, point_again stop.point, is_below _ 1024 h.few, false_test _ h.fresh) refl
 
-txn-again : (s : State) (name : List ℕ) (client clock : ℕ) (ms : List Mention) → IsTxn s name client clock ms → txn_result s (name ∷ decimal clock ∷ map mention_text ms) ≡ Ok (after s (Tries name client clock ms))
+txn-again : (s : State) (name : List ℕ) (client clock : ℕ) (ms : List Mention) → IsTxn s name client clock ms
+    → txn_result s (name ∷ decimal clock ∷ map mention_text ms) ≡ Ok (after s (Tries name client clock ms))
 txn-again s name client clock [] h = absurd (omega (arith, h.some))
 txn-again s name client clock (m ∷ ms) h =
     let r = mentions-again s.version (m ∷ ms) h.mentions_fit in
     rw (r.1, to_rounds s.section h.section, h.well_named, h.declared, number-again 0 (2 ^ 61) clock (omega arith) (omega arith) h.clock_fits, r.0, is_at_most _ 16 h.few, is_at_most _ 256 h.keys, is_below _ 4096 h.txns) refl
 
-takeover-again : (s : State) (name : List ℕ) (id : TxnId) (view : ℕ) → IsTakeover s name id view → takeover_result s (words_behind (line_words (TakesOver name id view))) ≡ Ok (after s (TakesOver name id view))
+takeover-again : (s : State) (name : List ℕ) (id : TxnId) (view : ℕ) → IsTakeover s name id view
+    → takeover_result s (words_behind (line_words (TakesOver name id view))) ≡ Ok (after s (TakesOver name id view))
 takeover-again s name id view h =
     rw (id-cut s name id h.attempt, to_rounds s.section h.section, attempt-again s name id h.attempt, number-again 1 15 view (omega arith) h.view_low h.view_high, is_below _ 1024 h.few) refl
 
 global-again : (s : State) (line : GlobalLine) → s.size ≤ 3 → IsGlobal s line → by_words s (global_words line) ≡ Ok (after s (Changes line))
-global-again s (globals.Wipe replica) sized h = rw (to_behind s.section h.section, number-again 0 (2 * s.size) replica (omega arith) (omega arith) h.fits, is_below _ 256 h.few) refl
-global-again s (globals.Ask epoch) sized h = rw (to_behind s.section h.section, number-again 1 1000 epoch (omega arith) h.fits.0 h.fits.1, is_below _ 256 h.few) refl
-global-again s (globals.Promise epoch replica) sized h = rw (to_behind s.section h.section, number-again 1 1000 epoch (omega arith) h.fits.0 h.fits.1, number-again 0 (2 * s.size) replica (omega arith) (omega arith) h.fits.2, is_below _ 256 h.few) refl
-global-again s (globals.Merge epoch) sized h = rw (to_behind s.section h.section, number-again 1 1000 epoch (omega arith) h.fits.0 h.fits.1, is_below _ 256 h.few) refl
-global-again s (globals.Adopt epoch replica) sized h = rw (to_behind s.section h.section, number-again 1 1000 epoch (omega arith) h.fits.0 h.fits.1, number-again 0 (2 * s.size) replica (omega arith) (omega arith) h.fits.2, is_below _ 256 h.few) refl
-global-again s (globals.Enter epoch) sized h = rw (to_behind s.section h.section, number-again 1 1000 epoch (omega arith) h.fits.0 h.fits.1, is_below _ 256 h.few) refl
+global-again s (globals.Wipe replica) sized h =
+    rw (to_behind s.section h.section, number-again 0 (2 * s.size) replica (omega arith) (omega arith) h.fits, is_below _ 256 h.few) refl
+global-again s (globals.Ask epoch) sized h =
+    rw (to_behind s.section h.section, number-again 1 1000 epoch (omega arith) h.fits.0 h.fits.1, is_below _ 256 h.few) refl
+global-again s (globals.Promise epoch replica) sized h =
+    rw (to_behind s.section h.section, number-again 1 1000 epoch (omega arith) h.fits.0 h.fits.1, number-again 0 (2 * s.size) replica (omega arith) (omega arith) h.fits.2, is_below _ 256 h.few) refl
+global-again s (globals.Merge epoch) sized h =
+    rw (to_behind s.section h.section, number-again 1 1000 epoch (omega arith) h.fits.0 h.fits.1, is_below _ 256 h.few) refl
+global-again s (globals.Adopt epoch replica) sized h =
+    rw (to_behind s.section h.section, number-again 1 1000 epoch (omega arith) h.fits.0 h.fits.1, number-again 0 (2 * s.size) replica (omega arith) (omega arith) h.fits.2, is_below _ 256 h.few) refl
+global-again s (globals.Enter epoch) sized h =
+    rw (to_behind s.section h.section, number-again 1 1000 epoch (omega arith) h.fits.0 h.fits.1, is_below _ 256 h.few) refl
 
 words-again : (s : State) (line : Line) → s.size ≤ 3 → Fits s line → by_words s (line_words line) ≡ Ok (after s line)
 words-again s (Opens v) sized h = rw (h.0, version_again v h.1 h.2) refl
 words-again s (Sizes f) sized h = rw (h.0, number-again 1 3 f (omega arith) h.1 h.2) refl
-words-again s (Declares name column home) sized h = rw (h.section, h.well_named, number-again 0 7 column (omega arith) (omega arith) h.column_fits, number-again 0 (2 * s.size) home (omega arith) (omega arith) h.home_fits, is_below _ 64 h.few, none_test _ h.fresh) refl
+words-again s (Declares name column home) sized h =
+    rw (h.section, h.well_named, number-again 0 7 column (omega arith) (omega arith) h.column_fits, number-again 0 (2 * s.size) home (omega arith) (omega arith) h.home_fits, is_below _ 64 h.few, none_test _ h.fresh) refl
 words-again s (Retries n) sized h = rw (h.0, number-again 0 3 n (omega arith) (omega arith) h.1, none_test _ h.2) refl
 words-again s (Injects name fault) sized h = fault-again s name fault sized h
 words-again s (Halts name stop) sized h = stop-again s name stop h
@@ -258,7 +276,8 @@ words_of_spelling : (ws : List (List ℕ)) → is_passed_over (join_with_byte 32
 words_of_spelling [] some h = absurd cc
 words_of_spelling (w ∷ ws) some h = words_joined w ws (each_lacks (w ∷ ws) h)
 
-pub result_of_line : (s : State) (line : Line) → s.size ≤ 3 → Fits s line → is_printable (spelling line) ≡ true → line_result s (spelling line) ≡ Ok (after s line)
+pub result_of_line : (s : State) (line : Line) → s.size ≤ 3 → Fits s line → is_printable (spelling line) ≡ true
+    → line_result s (spelling line) ≡ Ok (after s line)
 result_of_line s line sized h p =
     let each = line_are_words s line sized h in
     let cut_again : words (spelling line) ≡ line_words line = words_of_spelling (line_words line) (not_passed line) each in

@@ -1,10 +1,10 @@
 -- Each line keeps what holds of every script.
-use Rattle.std.proofs.Common.{◌≡◌, ℕ, ◌+◌, ◌≤◌, List, [], ◌∷◌, ◌++◌, length, map, Option, Some, None, refl, sym, ap, subst, ◌∙◌, arith, append_assoc, inl, inr}
-use Rattle.std.specs.Prelude.{sum_by}
+use Rattle.std.proofs.Common.{◌≡◌, ℕ, ◌+◌, ◌≤◌, List, [], ◌∷◌, ◌++◌, length, map, Option, Some, None, Result, Ok, Err, refl, sym, ap, subst, ◌∙◌, arith, append_assoc, inl, inr}
+use Rattle.std.specs.Prelude.{sum_by, IfOk}
 use Rattle.std.specs.List.{AllByRecursion}
 use Rattle.std.proofs.lemmas.List.{append-nil, length-append, map_push}
 use Rattle.std.proofs.lemmas.List.Sums.{sum_by-append}
-use Rattle.mk_text.specs.Fields.{place, one_on}
+use Rattle.mk_spelling.specs.Fields.{place, one_on}
 use Rattle.mk_script.specs.declared.words.Section.{Section}
 use Rattle.mk_script.specs.declared.words.Section.TheVariants as sections
 use Rattle.mk_script.specs.declared.lines.ClientLine.{ClientLine}
@@ -19,15 +19,21 @@ use Rattle.mk_script.specs.Grammar.{Line, IsBehindPrelude, IsAttempt, Fits, afte
 use Rattle.mk_script.specs.Texts.{IsScript}
 use Rattle.mk_script.specs.Grammar.Line.{Opens, Sizes, Declares, Retries, Injects, Halts, Tries, TakesOver, Changes, NextRound}
 use Rattle.mk_script.specs.Whole.{Prefixed, IsClientBehind, IsOwned, IsAttemptOf, IsFaultBehind, IsStopBehind, IsTxnAt, TxnsAt, IsTakeoverOf, IsRoundAt, RoundsAt, AreRounds, IsWhole}
-use Rattle.mk_script.proofs.KeyLaws.{place_stays}
+use Rattle.mk_script.specs.declared.parsing.ScriptError.{ScriptError}
+use Rattle.mk_script.specs.Parsed.{Answers, script_text}
+use Rattle.mk_spelling.proofs.PlaceLaws.{place_stays}
+use Rattle.mk_script.proofs.WholeLaws.{found_law}
 
 -- ---- lists
 
-Prefixed-snoc : {A : Type 0} (P : List A → A → Type 0) (before xs : List A) (x : A) → Prefixed P before xs → P (before ++ xs) x → Prefixed P before (xs ++ x ∷ [])
+Prefixed-snoc : {A : Type 0} (P : List A → A → Type 0) (before xs : List A) (x : A) → Prefixed P before xs → P (before ++ xs) x
+    → Prefixed P before (xs ++ x ∷ [])
 Prefixed-snoc {A} P before [] x h k = (subst (λ (l : List A). P l x) (append-nil before) k, tt)
-Prefixed-snoc {A} P before (y ∷ ys) x h k = (h.0, Prefixed-snoc P (before ++ y ∷ []) ys x h.1 (subst (λ (l : List A). P l x) (sym (append_assoc before (y ∷ []) ys)) k))
+Prefixed-snoc {A} P before (y ∷ ys) x h k =
+    (h.0, Prefixed-snoc P (before ++ y ∷ []) ys x h.1 (subst (λ (l : List A). P l x) (sym (append_assoc before (y ∷ []) ys)) k))
 
-Prefixed-weaker : {A : Type 0} (P Q : List A → A → Type 0) → ((before : List A) (x : A) → P before x → Q before x) → (before xs : List A) → Prefixed P before xs → Prefixed Q before xs
+Prefixed-weaker : {A : Type 0} (P Q : List A → A → Type 0) → ((before : List A) (x : A) → P before x → Q before x) → (before xs : List A)
+    → Prefixed P before xs → Prefixed Q before xs
 Prefixed-weaker P Q f before [] h = tt
 Prefixed-weaker P Q f before (x ∷ xs) h = (f before x h.0, Prefixed-weaker P Q f (before ++ x ∷ []) xs h.1)
 
@@ -48,10 +54,13 @@ owned_stays : (clients : List ClientLine) (client : ClientLine) (n : ℕ) → Is
 owned_stays clients client n h = record {
   name = h.name;
   well_named = h.well_named;
-  number = ap (λ (names : List (List ℕ)). one_on (place h.name names)) (map_push name_of clients client) ∙ number_stays h.name (names_of clients) (client.name ∷ []) n h.number;
+  number =
+      ap (λ (names : List (List ℕ)). one_on (place h.name names)) (map_push name_of clients client)
+      ∙ number_stays h.name (names_of clients) (client.name ∷ []) n h.number;
 }
 
-fault_stays : (size : ℕ) (clients : List ClientLine) (client : ClientLine) (before : List FaultLine) (fault : FaultLine) → IsFaultBehind size clients before fault → IsFaultBehind size (clients ++ client ∷ []) before fault
+fault_stays : (size : ℕ) (clients : List ClientLine) (client : ClientLine) (before : List FaultLine) (fault : FaultLine)
+    → IsFaultBehind size clients before fault → IsFaultBehind size (clients ++ client ∷ []) before fault
 fault_stays size clients client before fault h = record {
   attempt = record { low = h.attempt.low; high = h.attempt.high; owner = owned_stays clients client fault.id.client h.attempt.owner };
   replica_fits = h.replica_fits;
@@ -61,7 +70,8 @@ fault_stays size clients client before fault h = record {
   fresh = h.fresh;
 }
 
-stop_stays : (clients : List ClientLine) (client : ClientLine) (before : List StopLine) (stop : StopLine) → IsStopBehind clients before stop → IsStopBehind (clients ++ client ∷ []) before stop
+stop_stays : (clients : List ClientLine) (client : ClientLine) (before : List StopLine) (stop : StopLine) → IsStopBehind clients before stop
+    → IsStopBehind (clients ++ client ∷ []) before stop
 stop_stays clients client before stop h = record {
   attempt = record { low = h.attempt.low; high = h.attempt.high; owner = owned_stays clients client stop.id.client h.attempt.owner };
   fresh = h.fresh;
@@ -82,7 +92,8 @@ record IsSplit (version size : ℕ) (clients : List ClientLine) (keys : List (Li
 
 split : (version size : ℕ) (clients : List ClientLine) (keys : List (List ℕ)) (rounds : List Round) (round : Round) (last : List (List ℕ))
     → RoundsAt version size clients keys (rounds ++ round ∷ []) last → IsSplit version size clients keys rounds round last
-split version size clients keys [] round last h = record { mid = keys; ended = refl; here = subst (λ (x : List (List ℕ)). IsRoundAt version size clients keys round x) (sym h.2) h.1 }
+split version size clients keys [] round last h =
+    record { mid = keys; ended = refl; here = subst (λ (x : List (List ℕ)). IsRoundAt version size clients keys round x) (sym h.2) h.1 }
 split version size clients keys (r ∷ rs) round last h =
     let k = split version size clients h.0 rs round last h.2 in
     record { mid = k.mid; ended = (h.0, h.1, k.ended); here = k.here }
@@ -108,7 +119,8 @@ empty_rounds version size clients = record {
 }
 
 -- the last round is changed
-changed : (version size : ℕ) (clients : List ClientLine) (keys new : List (List ℕ)) (rounds : List Round) (round next : Round) → AreRounds version size clients keys (rounds ++ round ∷ [])
+changed : (version size : ℕ) (clients : List ClientLine) (keys new : List (List ℕ)) (rounds : List Round) (round next : Round)
+    → AreRounds version size clients keys (rounds ++ round ∷ [])
     → ((mid : List (List ℕ)) → IsRoundAt version size clients mid round keys → IsRoundAt version size clients mid next new) → length new ≤ 256
     → sum_by txn_count rounds + txn_count next ≤ 4096 → sum_by takeover_count rounds + takeover_count next ≤ 1024 → sum_by global_count rounds + global_count next ≤ 256
     → AreRounds version size clients new (rounds ++ next ∷ [])
@@ -150,7 +162,8 @@ attempt_kept : (s : State) (name : List ℕ) (id : TxnId) → IsAttempt s name i
 attempt_kept s name id h = record { low = h.low; high = h.high; owner = record { name = name; well_named = h.well_named; number = h.declared } }
 
 -- the prelude goes on
-in_prelude : (s t : State) → s.section ≡ sections.Prelude → t.section ≡ s.section → t.rounds ≡ s.rounds → t.round ≡ s.round → t.keys ≡ s.keys → IsKept s → (IsWhole (script_of s) → IsWhole (script_of t)) → IsKept t
+in_prelude : (s t : State) → s.section ≡ sections.Prelude → t.section ≡ s.section → t.rounds ≡ s.rounds → t.round ≡ s.round → t.keys ≡ s.keys → IsKept s
+    → (IsWhole (script_of s) → IsWhole (script_of t)) → IsKept t
 in_prelude s t e section rounds round keys h f =
     let k = in_section s sections.Prelude e h in
     subst (λ (y : Section). KeptIn y t) (sym (section ∙ e)) (f k.0, rounds ∙ k.1, round ∙ k.2, keys ∙ k.3)
@@ -176,14 +189,17 @@ kept_after s (Declares name column home) h k =
     let w = p.0 in
     let client : ClientLine = record { name = name; column = column; home = home } in
     let clients = s.clients ++ client ∷ [] in
-    let rounds_are : s.rounds ++ s.round ∷ [] ≡ no_lines ∷ [] = ap (λ (r : Round). s.rounds ++ r ∷ []) p.2 ∙ ap (λ (rs : List Round). rs ++ no_lines ∷ []) p.1 in
+    let rounds_are : s.rounds ++ s.round ∷ [] ≡ no_lines ∷ [] =
+    ap (λ (r : Round). s.rounds ++ r ∷ []) p.2 ∙ ap (λ (rs : List Round). rs ++ no_lines ∷ []) p.1 in
     let rounds = subst (λ (rs : List Round). AreRounds s.version s.size clients [] rs) (sym rounds_are) (empty_rounds s.version s.size clients) in
     let whole : IsWhole (script_of (after s (Declares name column home))) = record {
       head = w.head;
       prelude = record {
-        clients_fit = Prefixed-snoc (IsClientBehind s.size) [] s.clients client w.prelude.clients_fit (record { well_named = k.well_named; column_fits = k.column_fits; home_fits = k.home_fits; fresh = k.fresh });
+        clients_fit =
+            Prefixed-snoc (IsClientBehind s.size) [] s.clients client w.prelude.clients_fit (record { well_named = k.well_named; column_fits = k.column_fits; home_fits = k.home_fits; fresh = k.fresh });
         clients_few = omega (arith, k.few, length-append s.clients (client ∷ []));
-        faults_fit = Prefixed-weaker (IsFaultBehind s.size s.clients) (IsFaultBehind s.size clients) (fault_stays s.size s.clients client) [] s.faults w.prelude.faults_fit;
+        faults_fit =
+            Prefixed-weaker (IsFaultBehind s.size s.clients) (IsFaultBehind s.size clients) (fault_stays s.size s.clients client) [] s.faults w.prelude.faults_fit;
         stops_fit = Prefixed-weaker (IsStopBehind s.clients) (IsStopBehind clients) (stop_stays s.clients client) [] s.stops w.prelude.stops_fit;
         few = w.prelude.few;
       };
@@ -192,7 +208,8 @@ kept_after s (Declares name column home) h k =
     subst (λ (y : Section). KeptIn y (after s (Declares name column home))) (sym k.section) (whole, p.1, p.2, p.3)
 kept_after s (Retries n) h k =
     in_prelude s (after s (Retries n)) k.0 refl refl refl refl h (λ w. record {
-      head = record { version_low = w.head.version_low; version_high = w.head.version_high; size_low = w.head.size_low; size_high = w.head.size_high; retry_high = k.1 };
+      head =
+          record { version_low = w.head.version_low; version_high = w.head.version_high; size_low = w.head.size_low; size_high = w.head.size_high; retry_high = k.1 };
       prelude = w.prelude;
       rounds = w.rounds;
     })
@@ -202,7 +219,8 @@ kept_after s (Injects name fault) h k =
       prelude = record {
         clients_fit = w.prelude.clients_fit;
         clients_few = w.prelude.clients_few;
-        faults_fit = Prefixed-snoc (IsFaultBehind s.size s.clients) [] s.faults fault w.prelude.faults_fit (record { attempt = attempt_kept s name fault.id k.attempt; replica_fits = k.replica_fits; nth_low = k.nth_low; nth_high = k.nth_high; injected = k.injected; fresh = k.fresh });
+        faults_fit =
+            Prefixed-snoc (IsFaultBehind s.size s.clients) [] s.faults fault w.prelude.faults_fit (record { attempt = attempt_kept s name fault.id k.attempt; replica_fits = k.replica_fits; nth_low = k.nth_low; nth_high = k.nth_high; injected = k.injected; fresh = k.fresh });
         stops_fit = w.prelude.stops_fit;
         few = omega (arith, k.few, length-append s.faults (fault ∷ []));
       };
@@ -215,7 +233,8 @@ kept_after s (Halts name stop) h k =
         clients_fit = w.prelude.clients_fit;
         clients_few = w.prelude.clients_few;
         faults_fit = w.prelude.faults_fit;
-        stops_fit = Prefixed-snoc (IsStopBehind s.clients) [] s.stops stop w.prelude.stops_fit (record { attempt = attempt_kept s name stop.id k.attempt; fresh = k.fresh });
+        stops_fit =
+            Prefixed-snoc (IsStopBehind s.clients) [] s.stops stop w.prelude.stops_fit (record { attempt = attempt_kept s name stop.id k.attempt; fresh = k.fresh });
         few = omega (arith, k.few, length-append s.stops (stop ∷ []));
       };
       rounds = w.rounds;
@@ -225,7 +244,8 @@ kept_after s (Tries name client clock ms) h k =
     let keys = keys_after s.keys ms in
     let txn : TxnLine = record { client = client; clock = clock; items = map (item_of keys) ms } in
     let next : Round = record s.round { txns = s.round.txns ++ txn ∷ [] } in
-    let at : IsTxnAt s.version s.clients s.keys txn keys = record { owner = record { name = name; well_named = k.well_named; number = k.declared }; clock_fits = k.clock_fits; mentions = ms; fit = k.mentions_fit; some = k.some; few = k.few; items = refl; grown = refl } in
+    let at : IsTxnAt s.version s.clients s.keys txn keys =
+    record { owner = record { name = name; well_named = k.well_named; number = k.declared }; clock_fits = k.clock_fits; mentions = ms; fit = k.mentions_fit; some = k.some; few = k.few; items = refl; grown = refl } in
     record {
       head = w.head;
       prelude = w.prelude;
@@ -266,7 +286,8 @@ kept_after s (Changes line) h k =
 kept_after s NextRound h k =
     let w = whole_from s k.0 h in
     let ended = s.rounds ++ s.round ∷ [] in
-    let one_more : length (ended ++ no_lines ∷ []) ≡ length s.rounds + 2 = omega (arith, length-append ended (no_lines ∷ []), length-append s.rounds (s.round ∷ [])) in
+    let one_more : length (ended ++ no_lines ∷ []) ≡ length s.rounds + 2 =
+    omega (arith, length-append ended (no_lines ∷ []), length-append s.rounds (s.round ∷ [])) in
     record {
       head = w.head;
       prelude = w.prelude;
@@ -294,3 +315,7 @@ pub IsWhole-from_text : (bytes : List ℕ) (s : ScriptParts) → IsScript bytes 
 IsWhole-from_text bytes s h =
     let kept = kept_say h.lines nothing h.last refl h.says in
     subst (λ (x : ScriptParts). IsWhole x) (sym h.whole) (whole_from h.last h.sized kept)
+
+pub whole_law : (r : Result ScriptParts ScriptError) (bytes : List ℕ) → Answers r (script_text bytes) → IfOk r (λ s. IsWhole s)
+whole_law (Ok s) bytes h = IsWhole-from_text bytes s (found_law (Ok s) bytes h)
+whole_law (Err e) bytes h = tt

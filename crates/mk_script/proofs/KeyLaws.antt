@@ -1,13 +1,13 @@
 -- Keys and items, one after the other.
-use Rattle.std.proofs.Common.{◌≡◌, ℕ, suc, ◌+◌, ◌<◌, ◌≤◌, ◌-◌, ◌^◌, Bool, true, false, cond, List, [], ◌∷◌, ◌++◌, length, map, min, Option, Some, None, Result, Ok, Err, refl, sym, ap, subst, ◌∙◌, arith, append_assoc}
+use Rattle.std.proofs.Common.{◌≡◌, ℕ, ◌+◌, ◌≤◌, ◌-◌, ◌^◌, Bool, true, false, cond, List, [], ◌∷◌, ◌++◌, length, map, min, Option, Some, None, Result, Ok, Err, refl, sym, ap, subst, ◌∙◌, arith, append_assoc}
 use Rattle.std.specs.Prelude.{is_some, IsOk}
-use Rattle.std.specs.Str.{bytes_eq}
 use Rattle.std.proofs.lemmas.List.{length-append, append-nil}
-use Rattle.mk_text.specs.declared.fault.TextFault.{TextFault}
-use Rattle.mk_text.specs.declared.fault.TextFault.TheVariants as faults
-use Rattle.mk_text.specs.Words.{is_name, number}
-use Rattle.mk_text.specs.Fields.{◌>>=◌, ◌>>◌, need, found, named, place, one_on}
-use Rattle.mk_text.proofs.FieldLaws.{bind_ok, need_ok, ok_is, bytes_eq-same}
+use Rattle.mk_spelling.specs.declared.fault.TextFault.{TextFault}
+use Rattle.mk_spelling.specs.declared.fault.TextFault.TheVariants as faults
+use Rattle.mk_spelling.specs.Words.{is_name, number}
+use Rattle.mk_spelling.specs.Fields.{◌>>=◌, ◌>>◌, need, found, named, place}
+use Rattle.mk_spelling.proofs.FieldLaws.{bind_ok, need_ok, ok_is}
+use Rattle.mk_spelling.proofs.PlaceLaws.{place_new, place_stays}
 use Rattle.mk_proc.specs.declared.Item.{Item}
 use Rattle.mk_proc.specs.declared.Item.TheVariants as items
 use Rattle.mk_script.specs.declared.error.LineError.{LineError}
@@ -20,39 +20,6 @@ use Rattle.mk_script.specs.Grammar.Mention.{Reads, Writes, Computes, Deletes}
 use Rattle.mk_script.specs.ItemShapes.{Shape, shape, mention_of, mentions_of}
 use Rattle.mk_script.specs.ItemShapes.Shape.{ReadShape, WriteShape, ComputeShape, DeleteShape}
 use Rattle.mk_script.specs.Seen.{ok_or_nil, mentioned, IsFull}
-
--- ---- places
-
-pub place_new : (w : List ℕ) (keys : List (List ℕ)) → place w keys ≡ None → place w (keys ++ w ∷ []) ≡ Some (length keys)
-place_new w [] h = rw (bytes_eq-same w) refl
-place_new w (k ∷ ks) h = here (bytes_eq w k) refl (place w ks) (place_new w ks) h
-  where
-    here : (b : Bool) → bytes_eq w k ≡ b → (o : Option ℕ) → (o ≡ None → place w (ks ++ w ∷ []) ≡ Some (length ks)) → cond b (Some 0) (one_on o) ≡ None → place w (k ∷ (ks ++ w ∷ [])) ≡ Some (suc (length ks))
-    here true b o ih e = absurd cc
-    here false b None ih e = rw (b, ih refl) refl
-    here false b (Some n) ih e = absurd cc
-
-pub place_stays : (w : List ℕ) (keys more : List (List ℕ)) (n : ℕ) → place w keys ≡ Some n → place w (keys ++ more) ≡ Some n
-place_stays w [] more n h = absurd cc
-place_stays w (k ∷ ks) more n h = here (bytes_eq w k) refl (place w ks) (λ m e. place_stays w ks more m e) h
-  where
-    here : (b : Bool) → bytes_eq w k ≡ b → (o : Option ℕ) → ((m : ℕ) → o ≡ Some m → place w (ks ++ more) ≡ Some m) → cond b (Some 0) (one_on o) ≡ Some n → place w (k ∷ (ks ++ more)) ≡ Some n
-    here true b o ih e = rw b e
-    here false b None ih e = absurd cc
-    here false b (Some m) ih e = rw (b, ih m refl) e
-
--- a place is one of the list's
-pub place_below : (w : List ℕ) (keys : List (List ℕ)) (n : ℕ) → place w keys ≡ Some n → n < length keys
-place_below w [] n h = absurd cc
-place_below w (k ∷ ks) n h = here (bytes_eq w k) refl (place w ks) (place_below w ks) h
-  where
-    here : (b : Bool) → bytes_eq w k ≡ b → (o : Option ℕ) → ((m : ℕ) → o ≡ Some m → m < length ks) → cond b (Some 0) (one_on o) ≡ Some n → n < suc (length ks)
-    here true b o ih e = let zero_is : 0 ≡ n = cc in omega (arith, zero_is)
-    here false b None ih e = absurd cc
-    here false b (Some m) ih e =
-        let next : suc m ≡ n = cc in
-        let below = ih m refl in
-        omega (arith, next, below)
 
 add_grows : (keys : List (List ℕ)) (w : List ℕ) → (more : List (List ℕ)) × (with_name keys w ≡ keys ++ more)
 add_grows keys w = here (is_some (place w keys)) refl
@@ -99,7 +66,8 @@ item_stays m keys ms = here m same
         let p = added_place (key_of m) keys in
         ap or_zero p.1 ∙ sym (number_stays (key_of m) (with_name keys (key_of m)) ms p.0 p.1)
 
-    here : (x : Mention) → number_of (with_name keys (key_of m)) (key_of x) ≡ number_of (keys_after keys (m ∷ ms)) (key_of x) → item_of (with_name keys (key_of m)) x ≡ item_of (keys_after keys (m ∷ ms)) x
+    here : (x : Mention) → number_of (with_name keys (key_of m)) (key_of x) ≡ number_of (keys_after keys (m ∷ ms)) (key_of x)
+        → item_of (with_name keys (key_of m)) x ≡ item_of (keys_after keys (m ∷ ms)) x
     here (Reads key) e = ap (λ (n : ℕ). items.Read n) e
     here (Writes key v) e = ap (λ (n : ℕ). items.Write n v) e
     here (Computes key proc v) e = ap (λ (n : ℕ). items.Compute n proc v) e
@@ -130,21 +98,14 @@ abbrev pub counts : ℕ → Result (List Mention) TextFault → Result ℕ TextF
 counts n (Ok ms) = Ok (min 17 (n + length ms))
 counts n (Err fault) = Err fault
 
-pub counts_on : (n : ℕ) (word : List ℕ) (ws : List (List ℕ)) (m : Mention) → mention_of (shape word) ≡ Ok m → counts n (mentions_of (word ∷ ws)) ≡ counts (min (n + 1) 17) (mentions_of ws)
-counts_on n word ws m e = rw e (here (mentions_of ws))
-  where
-    here : (r : Result (List Mention) TextFault) → counts n (r >>= λ others. Ok (m ∷ others)) ≡ counts (min (n + 1) 17) r
-    here (Ok ms) = ap (λ (k : ℕ). Ok k) (omega arith)
-    here (Err fault) = refl
-
-pub counts_fault : (n : ℕ) (word : List ℕ) (ws : List (List ℕ)) (fault : TextFault) → mention_of (shape word) ≡ Err fault → counts n (mentions_of (word ∷ ws)) ≡ Err fault
-counts_fault n word ws fault e = rw e refl
-
 -- the first of items that pass
-pub first_mentioned : (word : List ℕ) (ws : List (List ℕ)) (m : Mention) → mention_of (shape word) ≡ Ok m → IsOk (mentions_of (word ∷ ws)) → IsOk (mentions_of ws) × (mentioned (word ∷ ws) ≡ m ∷ mentioned ws)
+pub first_mentioned : (word : List ℕ) (ws : List (List ℕ)) (m : Mention) → mention_of (shape word) ≡ Ok m → IsOk (mentions_of (word ∷ ws))
+    → IsOk (mentions_of ws) × (mentioned (word ∷ ws) ≡ m ∷ mentioned ws)
 first_mentioned word ws m e h = here (mentions_of ws) refl (mention_of (shape word)) e h
   where
-    here : (r : Result (List Mention) TextFault) → mentions_of ws ≡ r → (o : Result Mention TextFault) → o ≡ Ok m → IsOk (o >>= λ first. r >>= λ others. Ok (first ∷ others)) → IsOk r × (ok_or_nil (o >>= λ first. r >>= λ others. Ok (first ∷ others)) ≡ m ∷ ok_or_nil r)
+    here : (r : Result (List Mention) TextFault) → mentions_of ws ≡ r → (o : Result Mention TextFault) → o ≡ Ok m
+        → IsOk (o >>= λ first. r >>= λ others. Ok (first ∷ others))
+        → IsOk r × (ok_or_nil (o >>= λ first. r >>= λ others. Ok (first ∷ others)) ≡ m ∷ ok_or_nil r)
     here (Ok ms) q (Ok x) c k = (refl, ap (λ (y : Mention). y ∷ ms) (ok_is x m c))
     here (Err fault) q (Ok x) c k = absurd cc
     here r q (Err fault) c k = absurd cc

@@ -6,18 +6,18 @@ use Rattle.std.specs.Str.{bytes_eq}
 use Rattle.std.specs.List.{list_any}
 use Rattle.std.proofs.lemmas.Bool.{eqb-true}
 use Rattle.std.proofs.lemmas.Fmt.{decimal_digit}
-use Rattle.mk_text.specs.declared.fault.TextFault.{TextFault}
-use Rattle.mk_text.specs.declared.fault.TextFault.TheVariants as faults
-use Rattle.mk_text.specs.Words.{words, cut, is_name, number, is_printable, is_empty}
-use Rattle.mk_text.specs.Fields.{◌>>=◌, ◌>>◌, need, found, named, place}
-use Rattle.mk_text.proofs.Cuts.{IsCut-from_cut}
-use Rattle.mk_text.proofs.Numbers.{number-back}
-use Rattle.mk_text.proofs.FieldLaws.{bind_ok, need_ok, found_ok, ok_is, named-back}
-use Rattle.mk_text.proofs.Joins.{joined_words}
+use Rattle.mk_spelling.specs.declared.fault.TextFault.{TextFault}
+use Rattle.mk_spelling.specs.declared.fault.TextFault.TheVariants as faults
+use Rattle.mk_spelling.specs.Words.{words, cut, is_name, number, is_printable, is_empty}
+use Rattle.mk_spelling.specs.Fields.{◌>>=◌, ◌>>◌, need, found, named, place}
+use Rattle.mk_spelling.proofs.Cuts.{IsCut-from_cut}
+use Rattle.mk_spelling.proofs.Numbers.{number-back}
+use Rattle.mk_spelling.proofs.FieldLaws.{bind_ok, need_ok, found_ok, ok_is, named-back}
+use Rattle.mk_spelling.proofs.Joins.{joined_words}
 use Rattle.mk_txn.specs.declared.TxnId.{TxnId}
-use Rattle.mk_msg.specs.declared.MsgKind.{MsgKind}
-use Rattle.mk_global.specs.declared.GlobalLine.{GlobalLine}
-use Rattle.mk_global.specs.declared.GlobalLine.TheVariants as globals
+use Rattle.mk_words.specs.declared.MsgKind.{MsgKind}
+use Rattle.mk_words.specs.declared.GlobalLine.{GlobalLine}
+use Rattle.mk_words.specs.declared.GlobalLine.TheVariants as globals
 use Rattle.mk_script.specs.declared.words.Keyword.{Keyword}
 use Rattle.mk_script.specs.declared.words.Keyword.TheVariants as keywords
 use Rattle.mk_script.specs.declared.lines.Fate.{Fate}
@@ -54,9 +54,12 @@ injected word fates.Lose e = λ h. absurd cc
 injected word fates.Twice e = λ h. absurd cc
 injected word fates.Late e = λ h. absurd cc
 injected word fates.NextRound e = λ h. absurd cc
-injected word fates.Deliver e = here (bytes_eq (fate_text fates.Lose) word) (bytes_eq (fate_text fates.Twice) word) (bytes_eq (fate_text fates.Late) word) (bytes_eq (fate_text fates.NextRound) word) e
+injected word fates.Deliver e =
+    here (bytes_eq (fate_text fates.Lose) word) (bytes_eq (fate_text fates.Twice) word) (bytes_eq (fate_text fates.Late) word) (bytes_eq (fate_text fates.NextRound) word) e
   where
-    here : (a b c d : Bool) → cond a (Some fates.Lose) (cond b (Some fates.Twice) (cond c (Some fates.Late) (cond d (Some fates.NextRound) None))) ≡ Some fates.Deliver → fates.Deliver ≢ fates.Deliver
+    here : (a b c d : Bool)
+        → cond a (Some fates.Lose) (cond b (Some fates.Twice) (cond c (Some fates.Late) (cond d (Some fates.NextRound) None))) ≡ Some fates.Deliver
+        → fates.Deliver ≢ fates.Deliver
     here true b c d h = absurd cc
     here false true c d h = absurd cc
     here false false true d h = absurd cc
@@ -81,7 +84,8 @@ attempt-back s p id e =
     let same = ok_is (id_of k.0 a.0) id k.2 in
     let seq_is = ap (λ (x : TxnId). x.seq) same in
     record {
-      attempt = record { low = omega (arith, sn.1, seq_is); high = omega (arith, sn.2, seq_is); well_named = n.0; declared = cn ∙ ap (λ (x : TxnId). some_number x.client) same };
+      attempt =
+          record { low = omega (arith, sn.1, seq_is); high = omega (arith, sn.2, seq_is); well_named = n.0; declared = cn ∙ ap (λ (x : TxnId). some_number x.client) same };
       seq = sn.0 ∙ ap decimal seq_is;
     }
   where
@@ -133,7 +137,8 @@ client-back s (name ∷ column ∷ home ∷ []) t sized e =
     let cn = number-back 0 7 column c.0 (omega arith) c.1 in
     let hn = number-back 0 (2 * s.size) home h.0 (omega arith) h.1 in (
       Declares name c.0 h.0,
-      ap (λ (x : List ℕ). keyword_text keywords.Client ∷ name ∷ x ∷ home ∷ []) cn.0 ∙ ap (λ (x : List ℕ). keyword_text keywords.Client ∷ name ∷ decimal c.0 ∷ x ∷ []) hn.0,
+      ap (λ (x : List ℕ). keyword_text keywords.Client ∷ name ∷ x ∷ home ∷ []) cn.0
+          ∙ ap (λ (x : List ℕ). keyword_text keywords.Client ∷ name ∷ decimal c.0 ∷ x ∷ []) hn.0,
       record { section = prelude_from s.section a.0; well_named = b.0; column_fits = cn.2; home_fits = hn.2; few = below _ 64 m.0; fresh = none_from _ w.0 },
       sym (ok_is _ t w.1),
     )
@@ -280,7 +285,8 @@ txn-back s (name ∷ clock ∷ first ∷ more) t e =
     let cn = found_ok faults.Unknown (client_number s name) k.0 k.1 in
     let mn = mentions-back s.version items ms f.0 r.1 in (
       Tries name client time ms,
-      ap (λ (x : List ℕ). keyword_text keywords.Txn ∷ name ∷ x ∷ items) tn.0 ∙ ap (λ (x : List (List ℕ)). keyword_text keywords.Txn ∷ name ∷ decimal time ∷ x) mn.0,
+      ap (λ (x : List ℕ). keyword_text keywords.Txn ∷ name ∷ x ∷ items) tn.0
+          ∙ ap (λ (x : List (List ℕ)). keyword_text keywords.Txn ∷ name ∷ decimal time ∷ x) mn.0,
       record { section = rounds_from s.section a.0; well_named = n.0; declared = cn; clock_fits = tn.2; mentions_fit = mn.1; some = some_mention ms (mn.0); few = at_most _ 16 m1.0; keys = at_most _ 256 m2.0; txns = below _ 4096 m3.0 },
       sym (ok_is _ t m3.1),
     )
@@ -305,7 +311,8 @@ takeover-back s (id_word ∷ word ∷ []) t e =
     let vn = number-back 1 15 word v.0 (omega arith) v.1 in
     let id_is : id_word ≡ id_text p.0 i.0.seq = cut_is.parts ∙ ap (λ (x : List ℕ). p.0 ++ 46 ∷ x) id.seq in (
       TakesOver p.0 i.0 v.0,
-      ap (λ (x : List ℕ). keyword_text keywords.Takeover ∷ x ∷ word ∷ []) id_is ∙ ap (λ (x : List ℕ). keyword_text keywords.Takeover ∷ id_text p.0 i.0.seq ∷ x ∷ []) vn.0,
+      ap (λ (x : List ℕ). keyword_text keywords.Takeover ∷ x ∷ word ∷ []) id_is
+          ∙ ap (λ (x : List ℕ). keyword_text keywords.Takeover ∷ id_text p.0 i.0.seq ∷ x ∷ []) vn.0,
       record { section = rounds_from s.section a.0; attempt = id.attempt; view_low = vn.1; view_high = vn.2; few = below _ 1024 m.0 },
       sym (ok_is _ t m.1),
     )
@@ -320,7 +327,8 @@ takeover-back s (id_word ∷ word ∷ []) t e =
     ids_of p = attempt_of s p >>= λ id. views_of p id
 
 -- a global line whose fields fit
-global-back : (s : State) (k : Keyword) (ws : List (List ℕ)) (line : GlobalLine) (t : State) → keyword_text k ∷ ws ≡ global_words line → behind_prelude s.section ≡ true → GlobalFits s.size line → global_result s line ≡ Ok t → IsOf s k ws t
+global-back : (s : State) (k : Keyword) (ws : List (List ℕ)) (line : GlobalLine) (t : State) → keyword_text k ∷ ws ≡ global_words line
+    → behind_prelude s.section ≡ true → GlobalFits s.size line → global_result s line ≡ Ok t → IsOf s k ws t
 global-back s k ws line t text section fits e =
     let m = need_ok (ltb (total global_count s) 256) faults.Many (Ok (after s (Changes line))) t e in
     (Changes line, text, record { section = behind_from s.section section; fits = fits; few = below _ 256 m.0 }, sym (ok_is _ t m.1))
@@ -380,19 +388,24 @@ member-back make s (word ∷ replica_word ∷ []) t sized e =
     record { epoch = b.0; replica = c.0; text = ap (λ (w : List ℕ). w ∷ replica_word ∷ []) n.0 ∙ ap (λ (w : List ℕ). decimal b.0 ∷ w ∷ []) r.0; low = n.1; high = n.2; replica_fits = r.2; section = a.0; leaves = c.2 }
 
 ask-back : (s : State) (ws : List (List ℕ)) (t : State) → epoch_result ask_line s ws ≡ Ok t → IsOf s keywords.Ask ws t
-ask-back s ws t e = let h = epoch-back ask_line s ws t e in global-back s keywords.Ask ws (globals.Ask h.epoch) t (ap (λ (x : List (List ℕ)). keyword_text keywords.Ask ∷ x) h.text) h.section (h.low, h.high) h.leaves
+ask-back s ws t e =
+    let h = epoch-back ask_line s ws t e in global-back s keywords.Ask ws (globals.Ask h.epoch) t (ap (λ (x : List (List ℕ)). keyword_text keywords.Ask ∷ x) h.text) h.section (h.low, h.high) h.leaves
 
 merge-back : (s : State) (ws : List (List ℕ)) (t : State) → epoch_result merge_line s ws ≡ Ok t → IsOf s keywords.Merge ws t
-merge-back s ws t e = let h = epoch-back merge_line s ws t e in global-back s keywords.Merge ws (globals.Merge h.epoch) t (ap (λ (x : List (List ℕ)). keyword_text keywords.Merge ∷ x) h.text) h.section (h.low, h.high) h.leaves
+merge-back s ws t e =
+    let h = epoch-back merge_line s ws t e in global-back s keywords.Merge ws (globals.Merge h.epoch) t (ap (λ (x : List (List ℕ)). keyword_text keywords.Merge ∷ x) h.text) h.section (h.low, h.high) h.leaves
 
 enter-back : (s : State) (ws : List (List ℕ)) (t : State) → epoch_result enter_line s ws ≡ Ok t → IsOf s keywords.Enter ws t
-enter-back s ws t e = let h = epoch-back enter_line s ws t e in global-back s keywords.Enter ws (globals.Enter h.epoch) t (ap (λ (x : List (List ℕ)). keyword_text keywords.Enter ∷ x) h.text) h.section (h.low, h.high) h.leaves
+enter-back s ws t e =
+    let h = epoch-back enter_line s ws t e in global-back s keywords.Enter ws (globals.Enter h.epoch) t (ap (λ (x : List (List ℕ)). keyword_text keywords.Enter ∷ x) h.text) h.section (h.low, h.high) h.leaves
 
 promise-back : (s : State) (ws : List (List ℕ)) (t : State) → s.size ≤ 3 → member_result promise_line s ws ≡ Ok t → IsOf s keywords.Promise ws t
-promise-back s ws t sized e = let h = member-back promise_line s ws t sized e in global-back s keywords.Promise ws (globals.Promise h.epoch h.replica) t (ap (λ (x : List (List ℕ)). keyword_text keywords.Promise ∷ x) h.text) h.section (h.low, h.high, h.replica_fits) h.leaves
+promise-back s ws t sized e =
+    let h = member-back promise_line s ws t sized e in global-back s keywords.Promise ws (globals.Promise h.epoch h.replica) t (ap (λ (x : List (List ℕ)). keyword_text keywords.Promise ∷ x) h.text) h.section (h.low, h.high, h.replica_fits) h.leaves
 
 adopt-back : (s : State) (ws : List (List ℕ)) (t : State) → s.size ≤ 3 → member_result adopt_line s ws ≡ Ok t → IsOf s keywords.Adopt ws t
-adopt-back s ws t sized e = let h = member-back adopt_line s ws t sized e in global-back s keywords.Adopt ws (globals.Adopt h.epoch h.replica) t (ap (λ (x : List (List ℕ)). keyword_text keywords.Adopt ∷ x) h.text) h.section (h.low, h.high, h.replica_fits) h.leaves
+adopt-back s ws t sized e =
+    let h = member-back adopt_line s ws t sized e in global-back s keywords.Adopt ws (globals.Adopt h.epoch h.replica) t (ap (λ (x : List (List ℕ)). keyword_text keywords.Adopt ∷ x) h.text) h.section (h.low, h.high, h.replica_fits) h.leaves
 
 round-back : (s : State) (ws : List (List ℕ)) (t : State) → round_result s ws ≡ Ok t → IsOf s keywords.Round ws t
 round-back s (x ∷ ws) t e = absurd cc

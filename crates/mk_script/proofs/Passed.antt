@@ -2,7 +2,7 @@
 use Rattle.std.proofs.Common.{◌≡◌, ℕ, ◌<◌, ◌≤◌, Bool, true, false, cond, leb, ltb, not, List, [], ◌∷◌, ◌++◌, Option, Some, None, refl, arith, inl, inr}
 use Rattle.std.specs.Prelude.{is_some}
 use Rattle.std.specs.Str.{bytes_eq}
-use Rattle.mk_text.specs.Fields.{named}
+use Rattle.mk_spelling.specs.Fields.{named}
 use Rattle.std.proofs.lemmas.Bool.Decides.{nat_tests}
 use Rattle.mk_script.specs.declared.words.Section.{Section}
 use Rattle.mk_script.specs.declared.words.Section.TheVariants as sections
@@ -69,11 +69,13 @@ abbrev pub one_or : {A : Type 0} → Option A → Option A → Option A
 one_or None o = o
 one_or (Some x) o = Some x
 
-pub named_append : {A : Type 0} (text : A → List ℕ) (xs ys : List A) (word : List ℕ) → named text (xs ++ ys) word ≡ one_or (named text xs word) (named text ys word)
+pub named_append : {A : Type 0} (text : A → List ℕ) (xs ys : List A) (word : List ℕ)
+    → named text (xs ++ ys) word ≡ one_or (named text xs word) (named text ys word)
 named_append text [] ys word = refl
 named_append {A} text (x ∷ xs) ys word = here (bytes_eq (text x) word) (named_append text xs ys word)
   where
-    here : (t : Bool) → named text (xs ++ ys) word ≡ one_or (named text xs word) (named text ys word) → cond t (Some x) (named text (xs ++ ys) word) ≡ one_or (cond t (Some x) (named text xs word)) (named text ys word)
+    here : (t : Bool) → named text (xs ++ ys) word ≡ one_or (named text xs word) (named text ys word)
+        → cond t (Some x) (named text (xs ++ ys) word) ≡ one_or (cond t (Some x) (named text xs word)) (named text ys word)
     here true rest = refl
     here false rest = rest
 

@@ -4,16 +4,16 @@ use Rattle.std.specs.Fmt.{decimal}
 use Rattle.std.specs.List.{list_all, join_with_byte, AllByRecursion}
 use Rattle.std.proofs.lemmas.Bool.Decides.{nat_tests}
 use Rattle.std.proofs.lemmas.List.Folds.{list_all-append}
-use Rattle.mk_text.specs.Words.{is_name, is_letter, is_name_byte, are_name_bytes, is_printable}
-use Rattle.mk_text.proofs.Cuts.{and_both}
-use Rattle.mk_text.proofs.Numbers.{decimal_digits}
+use Rattle.mk_spelling.specs.Words.{is_name, is_letter, is_name_byte, are_name_bytes, is_printable}
+use Rattle.std.proofs.lemmas.Bool.{and_parts}
+use Rattle.mk_spelling.proofs.Numbers.{decimal_digits}
 use Rattle.mk_txn.specs.declared.TxnId.{TxnId}
 use Rattle.mk_proc.specs.declared.ProcKind.{ProcKind}
 use Rattle.mk_proc.specs.declared.ProcKind.TheVariants as procs
-use Rattle.mk_msg.specs.declared.MsgKind.{MsgKind}
-use Rattle.mk_msg.specs.declared.MsgKind.TheVariants as kinds
-use Rattle.mk_global.specs.declared.GlobalLine.{GlobalLine}
-use Rattle.mk_global.specs.declared.GlobalLine.TheVariants as globals
+use Rattle.mk_words.specs.declared.MsgKind.{MsgKind}
+use Rattle.mk_words.specs.declared.MsgKind.TheVariants as kinds
+use Rattle.mk_words.specs.declared.GlobalLine.{GlobalLine}
+use Rattle.mk_words.specs.declared.GlobalLine.TheVariants as globals
 use Rattle.mk_script.specs.declared.lines.Fate.{Fate}
 use Rattle.mk_script.specs.declared.lines.Fate.TheVariants as fates
 use Rattle.mk_script.specs.declared.lines.Point.{Point}
@@ -36,7 +36,7 @@ printed_cons x b h k = rw (h, k) refl
 wider : (p q : ℕ → Bool) → ((x : ℕ) → p x ≡ true → q x ≡ true) → (xs : List ℕ) → list_all p xs ≡ true → list_all q xs ≡ true
 wider p q h [] e = refl
 wider p q h (x ∷ xs) e =
-    let k = and_both (p x) (list_all p xs) e in
+    let k = and_parts (p x) (list_all p xs) e in
     rw (h x k.0, wider p q h xs k.1) refl
 
 printed_decimal : (n : ℕ) → n < 2 ^ 64 → IsPrinted (decimal n)
@@ -48,8 +48,8 @@ name_byte_printed x e = grind (arith, nat_tests)
 printed_name : (name : List ℕ) → is_name name ≡ true → IsPrinted name
 printed_name [] e = refl
 printed_name (b ∷ bs) e =
-    let h = and_both (is_letter b && leb (length bs) 15) (are_name_bytes bs) e in
-    let k = and_both (is_letter b) (leb (length bs) 15) h.0 in
+    let h = and_parts (is_letter b && leb (length bs) 15) (are_name_bytes bs) e in
+    let k = and_parts (is_letter b) (leb (length bs) 15) h.0 in
     printed_cons b bs (name_byte_printed b (rw k.0 refl)) (wider is_name_byte (λ b. leb 32 b && leb b 126) name_byte_printed bs h.1)
 
 printed_proc : (proc : ProcKind) → IsPrinted (proc_text proc)
@@ -87,7 +87,8 @@ printed_id s name id h =
 printed_mention : (version : ℕ) (m : Mention) → IsMention version m → IsPrinted (mention_text m)
 printed_mention version (Reads key) h = printed_append (114 ∷ 58 ∷ []) key refl (printed_name key h.well_named)
 printed_mention version (Deletes key) h = printed_append (100 ∷ 58 ∷ []) key refl (printed_name key h.well_named)
-printed_mention version (Writes key n) h = printed_append (119 ∷ 58 ∷ []) (key ++ 61 ∷ decimal n) refl (printed_append key (61 ∷ decimal n) (printed_name key h.well_named) (printed_cons 61 (decimal n) refl (printed_decimal n h.fits)))
+printed_mention version (Writes key n) h =
+    printed_append (119 ∷ 58 ∷ []) (key ++ 61 ∷ decimal n) refl (printed_append key (61 ∷ decimal n) (printed_name key h.well_named) (printed_cons 61 (decimal n) refl (printed_decimal n h.fits)))
 printed_mention version (Computes key proc n) h =
     printed_append (99 ∷ 58 ∷ []) (key ++ 61 ∷ (proc_text proc ++ 40 ∷ (decimal n ++ 41 ∷ []))) refl
     (printed_append key (61 ∷ (proc_text proc ++ 40 ∷ (decimal n ++ 41 ∷ []))) (printed_name key h.well_named)
@@ -102,24 +103,32 @@ printed_mentions version (m ∷ ms) h = (printed_mention version m h.0, printed_
 printed_join : (ws : List (List ℕ)) → AllByRecursion IsPrinted ws → IsPrinted (join_with_byte 32 ws)
 printed_join [] h = refl
 printed_join (w ∷ []) h = h.0
-printed_join (w ∷ v ∷ ws) h = printed_append w (32 ∷ join_with_byte 32 (v ∷ ws)) h.0 (printed_cons 32 (join_with_byte 32 (v ∷ ws)) refl (printed_join (v ∷ ws) h.1))
+printed_join (w ∷ v ∷ ws) h =
+    printed_append w (32 ∷ join_with_byte 32 (v ∷ ws)) h.0 (printed_cons 32 (join_with_byte 32 (v ∷ ws)) refl (printed_join (v ∷ ws) h.1))
 
 printed_global : (size : ℕ) (line : GlobalLine) → size ≤ 3 → GlobalFits size line → IsPrinted (spelling (Changes line))
 printed_global size (globals.Wipe replica) sized h = printed_join (global_words (globals.Wipe replica)) (refl, (printed_decimal replica (omega (arith, h)), tt))
 printed_global size (globals.Ask epoch) sized h = printed_join (global_words (globals.Ask epoch)) (refl, (printed_decimal epoch (omega (arith, h.1)), tt))
-printed_global size (globals.Promise epoch replica) sized h = printed_join (global_words (globals.Promise epoch replica)) (refl, (printed_decimal epoch (omega (arith, h.1)), (printed_decimal replica (omega (arith, h.2)), tt)))
+printed_global size (globals.Promise epoch replica) sized h =
+    printed_join (global_words (globals.Promise epoch replica)) (refl, (printed_decimal epoch (omega (arith, h.1)), (printed_decimal replica (omega (arith, h.2)), tt)))
 printed_global size (globals.Merge epoch) sized h = printed_join (global_words (globals.Merge epoch)) (refl, (printed_decimal epoch (omega (arith, h.1)), tt))
-printed_global size (globals.Adopt epoch replica) sized h = printed_join (global_words (globals.Adopt epoch replica)) (refl, (printed_decimal epoch (omega (arith, h.1)), (printed_decimal replica (omega (arith, h.2)), tt)))
+printed_global size (globals.Adopt epoch replica) sized h =
+    printed_join (global_words (globals.Adopt epoch replica)) (refl, (printed_decimal epoch (omega (arith, h.1)), (printed_decimal replica (omega (arith, h.2)), tt)))
 printed_global size (globals.Enter epoch) sized h = printed_join (global_words (globals.Enter epoch)) (refl, (printed_decimal epoch (omega (arith, h.1)), tt))
 
 pub printed_line : (s : State) (line : Line) → s.size ≤ 3 → Fits s line → IsPrinted (spelling line)
 printed_line s (Opens v) sized h = printed_join (line_words (Opens v)) (refl, (printed_decimal v (omega (arith, h.2)), tt))
 printed_line s (Sizes f) sized h = printed_join (line_words (Sizes f)) (refl, (printed_decimal f (omega (arith, h.2)), tt))
-printed_line s (Declares name column home) sized h = printed_join (line_words (Declares name column home)) (refl, (printed_name name h.well_named, (printed_decimal column (omega (arith, h.column_fits)), (printed_decimal home (omega (arith, h.home_fits)), tt))))
+printed_line s (Declares name column home) sized h =
+    printed_join (line_words (Declares name column home)) (refl, (printed_name name h.well_named, (printed_decimal column (omega (arith, h.column_fits)), (printed_decimal home (omega (arith, h.home_fits)), tt))))
 printed_line s (Retries n) sized h = printed_join (line_words (Retries n)) (refl, (printed_decimal n (omega (arith, h.1)), tt))
-printed_line s (Injects name fault) sized h = printed_join (line_words (Injects name fault)) (refl, (printed_kind fault.kind, (printed_id s name fault.id h.attempt, (printed_decimal fault.replica (omega (arith, h.replica_fits)), (printed_decimal fault.nth (omega (arith, h.nth_high)), (printed_fate fault.fate, tt))))))
-printed_line s (Halts name stop) sized h = printed_join (line_words (Halts name stop)) (refl, (printed_id s name stop.id h.attempt, (printed_point stop.point, tt)))
-printed_line s (Tries name client clock ms) sized h = printed_join (line_words (Tries name client clock ms)) (refl, (printed_name name h.well_named, (printed_decimal clock (omega (arith, h.clock_fits)), printed_mentions s.version ms h.mentions_fit)))
-printed_line s (TakesOver name id view) sized h = printed_join (line_words (TakesOver name id view)) (refl, (printed_id s name id h.attempt, (printed_decimal view (omega (arith, h.view_high)), tt)))
+printed_line s (Injects name fault) sized h =
+    printed_join (line_words (Injects name fault)) (refl, (printed_kind fault.kind, (printed_id s name fault.id h.attempt, (printed_decimal fault.replica (omega (arith, h.replica_fits)), (printed_decimal fault.nth (omega (arith, h.nth_high)), (printed_fate fault.fate, tt))))))
+printed_line s (Halts name stop) sized h =
+    printed_join (line_words (Halts name stop)) (refl, (printed_id s name stop.id h.attempt, (printed_point stop.point, tt)))
+printed_line s (Tries name client clock ms) sized h =
+    printed_join (line_words (Tries name client clock ms)) (refl, (printed_name name h.well_named, (printed_decimal clock (omega (arith, h.clock_fits)), printed_mentions s.version ms h.mentions_fit)))
+printed_line s (TakesOver name id view) sized h =
+    printed_join (line_words (TakesOver name id view)) (refl, (printed_id s name id h.attempt, (printed_decimal view (omega (arith, h.view_high)), tt)))
 printed_line s (Changes line) sized h = printed_global s.size line sized h.fits
 printed_line s NextRound sized h = refl

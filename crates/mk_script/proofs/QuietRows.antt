@@ -1,10 +1,10 @@
 -- Quiet scripts, and scripts that are not, shown by computing.
-use Rattle.std.proofs.Common.{◌≡◌, ℕ, Bool, true, false, not, eqb, ◌&&◌, ◌||◌, List, [], ◌∷◌, map, refl, sym, ap, ◌∙◌, inl, inr, subst, arith}
+use Rattle.std.proofs.Common.{◌≡◌, ℕ, Bool, true, false, not, eqb, ◌||◌, List, [], ◌∷◌, map, refl, sym, ap, inl, inr, subst, arith}
 use Rattle.std.specs.Prelude.{codes}
 use Rattle.std.specs.List.{list_any, list_all}
 use Rattle.std.proofs.lemmas.Bool.{eqb-true}
 use Rattle.mk_lists.specs.Among.{Among}
-use Rattle.mk_txn.proofs.ClashFacts.{list_any-from_member}
+use Rattle.mk_lists.proofs.Tests.{list_any-from_Among, list_all-among}
 use Rattle.mk_proc.specs.declared.Item.TheVariants.{Read, Write}
 use Rattle.mk_proc.specs.Items.{key_of}
 use Rattle.mk_script.specs.declared.lines.TxnLine.{TxnLine}
@@ -27,21 +27,12 @@ are_apart a b = eqb a.client b.client || not (meet (keys_of a) (keys_of b))
 abbrev all_apart : List TxnLine → Bool
 all_apart txns = list_all (λ a. list_all (are_apart a) txns) txns
 
-both : (a b : Bool) → (a && b) ≡ true → (a ≡ true) × (b ≡ true)
-both true b e = (refl, e)
-both false b e = absurd (cc e)
-
-passes : {X : Type 0} (p : X → Bool) (xs : List X) (x : X) → list_all p xs ≡ true → Among x xs → p x ≡ true
-passes p [] x e a = absurd a
-passes p (y ∷ xs) x e (inl same) = ap p (sym same) ∙ (both (p y) (list_all p xs) e).0
-passes p (y ∷ xs) x e (inr a) = passes p xs x (both (p y) (list_all p xs) e).1 a
-
 same_key : (n : ℕ) → eqb n n ≡ true
 same_key n = grind arith
 
 meet-at : (keys others : List ℕ) (key : ℕ) → Among key keys → Among key others → meet keys others ≡ true
 meet-at keys others key a b =
-    list_any-from_member (λ k. list_any (eqb k) others) keys key a (list_any-from_member (eqb key) others key b (same_key key))
+    list_any-from_Among (λ k. list_any (eqb k) others) keys key a (list_any-from_Among (eqb key) others key b (same_key key))
 
 are_apart-holds : (a b : TxnLine) → are_apart a b ≡ true → AreApart a b
 are_apart-holds a b e key at_a at_b = here (eqb a.client b.client) refl e
@@ -52,7 +43,7 @@ are_apart-holds a b e key at_a at_b = here (eqb a.client b.client) refl e
 
 apart : (txns : List TxnLine) → all_apart txns ≡ true → (a b : TxnLine) → Among a txns → Among b txns → AreApart a b
 apart txns e a b at_a at_b =
-    are_apart-holds a b (passes (are_apart a) txns b (passes (λ x. list_all (are_apart x) txns) txns a e at_a) at_b)
+    are_apart-holds a b (list_all-among (are_apart a) txns b (list_all-among (λ x. list_all (are_apart x) txns) txns a e at_a) at_b)
 
 -- ---- the cases
 
@@ -103,7 +94,8 @@ two_at_a_key h = here h.txns h.one_round h.apart
     here : (txns : List TxnLine) → one_round (first ∷ there ∷ []) ≡ one_round txns → ((a b : TxnLine) → Among a txns → Among b txns → AreApart a b) → ⊥
     here txns e all =
         let same : (first ∷ there ∷ []) ≡ txns = ap txns_in e in
-        let one : 1 ≡ 2 = subst (λ (x : List TxnLine). (a b : TxnLine) → Among a x → Among b x → AreApart a b) (sym same) all first there (inl refl) (inr (inl refl)) 0 (inl refl) (inr (inl refl)) in
+        let one : 1 ≡ 2 =
+        subst (λ (x : List TxnLine). (a b : TxnLine) → Among a x → Among b x → AreApart a b) (sym same) all first there (inl refl) (inr (inl refl)) 0 (inl refl) (inr (inl refl)) in
         absurd (cc one)
 
 retried : ¬ (IsQuiet (record (with_txns []) { retry = 1 }))

@@ -1,16 +1,14 @@
 -- The lines that are printed of a script say that script.
 use Rattle.std.proofs.Common.{◌≡◌, ℕ, zero, suc, ◌+◌, ◌-◌, ◌<◌, ◌≤◌, Bool, true, false, cond, eqb, List, [], ◌∷◌, ◌++◌, length, map, Option, Some, None, refl, sym, ap, subst, ◌∙◌, arith, append_assoc, inl, inr}
-use Rattle.std.specs.Prelude.{sum_by, slice_get, Result, Ok, Err, IfOk, OnOk, Vec}
+use Rattle.std.specs.Prelude.{sum_by, Result, Ok, Err, IfOk, OnOk, Vec}
 use Rattle.std.specs.Global.{Global}
 use Rattle.std.specs.List.{flat_map, AllByRecursion}
-use Rattle.std.specs.Str.{bytes_eq}
 use Rattle.std.proofs.lemmas.Bool.{eqb-true}
 use Rattle.std.proofs.lemmas.List.{append-nil, length-append}
 use Rattle.std.proofs.lemmas.List.Concat.{flat_map-cons}
 use Rattle.std.proofs.lemmas.List.Sums.{sum_by-append, sum_by-cons}
-use Rattle.std.proofs.lemmas.Slice.Eq.{bytes_eq-Decides}
-use Rattle.mk_text.specs.Fields.{place, one_on}
-use Rattle.mk_text.proofs.FieldLaws.{some_is}
+use Rattle.mk_spelling.specs.Fields.{place, one_on}
+use Rattle.std.proofs.lemmas.Option.{same_Some}
 use Rattle.mk_names.specs.NameLists.{with_name}
 use Rattle.mk_txn.specs.declared.TxnId.{TxnId}
 use Rattle.mk_script.specs.declared.words.Section.{Section}
@@ -20,7 +18,7 @@ use Rattle.mk_script.specs.declared.lines.FaultLine.{FaultLine}
 use Rattle.mk_script.specs.declared.lines.StopLine.{StopLine}
 use Rattle.mk_script.specs.declared.lines.TxnLine.{TxnLine}
 use Rattle.mk_script.specs.declared.lines.TakeoverLine.{TakeoverLine}
-use Rattle.mk_global.specs.declared.GlobalLine.{GlobalLine}
+use Rattle.mk_words.specs.declared.GlobalLine.{GlobalLine}
 use Rattle.mk_script.specs.declared.lines.Round.{Round}
 use Rattle.mk_script.specs.Scripts.{ScriptParts, State, nothing, no_lines, or_zero, names_of, txn_count, takeover_count, global_count}
 use Rattle.mk_script.specs.Grammar.{Mention, Line, spelling, key_of, IsInRounds, IsBehindPrelude, IsAttempt, Fits, GlobalFits, after, keys_after, number_of, item_of, Say}
@@ -30,7 +28,8 @@ use Rattle.mk_script.specs.Texts.{ended, IsScript}
 use Rattle.mk_script.specs.Parsed.{script_text}
 use Rattle.mk_script.specs.Printed.{client_name, key_name, mention_in, client_line, retry_lines, fault_line, stop_line, txn_line, takeover_line, global_line, round_lines, next_lines, rounds_lines, lines_of, line_text, text_of, print_text}
 use Rattle.mk_script.specs.Whole.{Prefixed, IsClientBehind, IsOwned, IsAttemptOf, IsFaultBehind, IsStopBehind, IsTxnAt, TxnsAt, IsTakeoverOf, IsRoundAt, RoundsAt, AreRounds, IsWhole}
-use Rattle.mk_script.proofs.KeyLaws.{keys_grow, place_stays, added_place}
+use Rattle.mk_script.proofs.KeyLaws.{keys_grow, added_place}
+use Rattle.mk_spelling.proofs.PlaceLaws.{place_stays, place-get}
 use Rattle.mk_script.proofs.WholeLaws.{small_after, text_from_IsScript}
 
 -- ---- lines that fit one behind the other
@@ -80,24 +79,6 @@ each {A} line state P n step before (x ∷ xs) h few =
 
 -- ---- names by number
 
-place-get : (w : List ℕ) (names : List (List ℕ)) (k : ℕ) → place w names ≡ Some k → slice_get names k ≡ Some w
-place-get w [] k e = absurd cc
-place-get w (x ∷ xs) k e = here (bytes_eq w x) refl (place w xs) refl (place-get w xs) e
-  where
-    some_text : List ℕ → Option (List ℕ)
-    some_text t = Some t
-
-    at_zero : bytes_eq w x ≡ true → (n : ℕ) → zero ≡ n → slice_get (x ∷ xs) n ≡ Some w
-    at_zero b n z = subst (λ (m : ℕ). slice_get (x ∷ xs) m ≡ Some w) z (ap some_text (sym ((bytes_eq-Decides w x).0 b)))
-
-    at_suc : (m n : ℕ) → slice_get xs m ≡ Some w → suc m ≡ n → slice_get (x ∷ xs) n ≡ Some w
-    at_suc m n h z = subst (λ (i : ℕ). slice_get (x ∷ xs) i ≡ Some w) z h
-
-    here : (b : Bool) → bytes_eq w x ≡ b → (o : Option ℕ) → place w xs ≡ o → ((m : ℕ) → place w xs ≡ Some m → slice_get xs m ≡ Some w) → cond b (Some 0) (one_on o) ≡ Some k → slice_get (x ∷ xs) k ≡ Some w
-    here true b o p ih h = at_zero b k (some_is 0 k h)
-    here false b None p ih h = absurd cc
-    here false b (Some m) p ih h = at_suc m k (ih m p) (some_is (suc m) k h)
-
 -- a client's number gives its name
 owner_name : (clients : List ClientLine) (n : ℕ) (h : IsOwned clients n) → client_name clients n ≡ h.name
 owner_name clients n h = here (place h.name (names_of clients)) refl h.number
@@ -105,7 +86,7 @@ owner_name clients n h = here (place h.name (names_of clients)) refl h.number
     here : (o : Option ℕ) → place h.name (names_of clients) ≡ o → one_on o ≡ Some n → client_name clients n ≡ h.name
     here None p e = absurd cc
     here (Some k) p e =
-        let same : suc k ≡ n = some_is (suc k) n e in
+        let same : suc k ≡ n = same_Some (suc k) n e in
         let less : n - 1 ≡ k = omega arith in
         rw (less, place-get h.name (names_of clients) k p) refl
 
@@ -141,7 +122,8 @@ mention_back (Computes key proc v) keys all n p h = ap (λ (x : List ℕ). Compu
 mention_back (Deletes key) keys all n p h = ap (λ (x : List ℕ). Deletes x) (key_back key keys all n p h)
 
 -- the items of a line, with the keys known behind it, are its mentions
-mentions_back : (keys : List (List ℕ)) (ms : List Mention) (last all : List (List ℕ)) → last ≡ keys_after keys ms → IsMore last all → map (mention_in all) (map (item_of last) ms) ≡ ms
+mentions_back : (keys : List (List ℕ)) (ms : List Mention) (last all : List (List ℕ)) → last ≡ keys_after keys ms → IsMore last all
+    → map (mention_in all) (map (item_of last) ms) ≡ ms
 mentions_back keys [] last all e h = refl
 mentions_back keys (m ∷ ms) last all e h =
     let p = mentioned_place keys ms m in
@@ -150,27 +132,33 @@ mentions_back keys (m ∷ ms) last all e h =
     ap (λ (x : Mention). x ∷ map (mention_in all) (map (item_of last) ms)) one ∙ ap (λ (x : List Mention). m ∷ x) rest
 
 more_again : (a b c : List (List ℕ)) → IsMore a b → IsMore b c → IsMore a c
-more_again a b c h k = record { more = h.more ++ k.more; all_are = k.all_are ∙ ap (λ (x : List (List ℕ)). x ++ k.more) h.all_are ∙ append_assoc a h.more k.more }
+more_again a b c h k =
+    record { more = h.more ++ k.more; all_are = k.all_are ∙ ap (λ (x : List (List ℕ)). x ++ k.more) h.all_are ∙ append_assoc a h.more k.more }
 
 same_more : (a b : List (List ℕ)) → b ≡ a → IsMore a b
 same_more a b e = record { more = []; all_are = e ∙ sym (append-nil a) }
 
-txn_more : (version : ℕ) (clients : List ClientLine) (keys : List (List ℕ)) (txn : TxnLine) (last : List (List ℕ)) → IsTxnAt version clients keys txn last → IsMore keys last
+txn_more : (version : ℕ) (clients : List ClientLine) (keys : List (List ℕ)) (txn : TxnLine) (last : List (List ℕ)) → IsTxnAt version clients keys txn last
+    → IsMore keys last
 txn_more version clients keys txn last h = let g = keys_grow keys h.mentions in record { more = g.0; all_are = h.grown ∙ g.1 }
 
-txns_more : (version : ℕ) (clients : List ClientLine) (keys : List (List ℕ)) (txns : List TxnLine) (last : List (List ℕ)) → TxnsAt version clients keys txns last → IsMore keys last
+txns_more : (version : ℕ) (clients : List ClientLine) (keys : List (List ℕ)) (txns : List TxnLine) (last : List (List ℕ))
+    → TxnsAt version clients keys txns last → IsMore keys last
 txns_more version clients keys [] last h = same_more keys last h
 txns_more version clients keys (t ∷ ts) last h = more_again keys h.0 last (txn_more version clients keys t h.0 h.1) (txns_more version clients h.0 ts last h.2)
 
-rounds_more : (version size : ℕ) (clients : List ClientLine) (keys : List (List ℕ)) (rounds : List Round) (last : List (List ℕ)) → RoundsAt version size clients keys rounds last → IsMore keys last
+rounds_more : (version size : ℕ) (clients : List ClientLine) (keys : List (List ℕ)) (rounds : List Round) (last : List (List ℕ))
+    → RoundsAt version size clients keys rounds last → IsMore keys last
 rounds_more version size clients keys [] last h = same_more keys last h
-rounds_more version size clients keys (r ∷ rs) last h = more_again keys h.0 last (txns_more version clients keys r.txns h.0 h.1.txns) (rounds_more version size clients h.0 rs last h.2)
+rounds_more version size clients keys (r ∷ rs) last h =
+    more_again keys h.0 last (txns_more version clients keys r.txns h.0 h.1.txns) (rounds_more version size clients h.0 rs last h.2)
 
 -- ---- the prelude
 
 -- what is read when the prelude is
 abbrev prelude_state : ℕ → ℕ → List ClientLine → Option ℕ → List FaultLine → List StopLine → State
-prelude_state version size clients retry faults stops = record { section = sections.Prelude; version = version; size = size; clients = clients; keys = []; retry = retry; faults = faults; stops = stops; rounds = []; round = no_lines }
+prelude_state version size clients retry faults stops =
+    record { section = sections.Prelude; version = version; size = size; clients = clients; keys = []; retry = retry; faults = faults; stops = stops; rounds = []; round = no_lines }
 
 clients_lead : (version size : ℕ) (clients : List ClientLine) → Prefixed (IsClientBehind size) [] clients → length clients ≤ 64
     → Leads (prelude_state version size [] None [] []) (map client_line clients) (prelude_state version size clients None [] [])
@@ -180,14 +168,17 @@ clients_lead version size clients h few =
     [] clients h (omega (arith, few))
 
 retry_leads : (version size : ℕ) (clients : List ClientLine) (retry : ℕ) → retry ≤ 3
-    → (o : Option ℕ) × (or_zero o ≡ retry) × Leads (prelude_state version size clients None [] []) (retry_lines retry) (prelude_state version size clients o [] [])
+    → (o : Option ℕ) × (or_zero o ≡ retry)
+    × Leads (prelude_state version size clients None [] []) (retry_lines retry) (prelude_state version size clients o [] [])
 retry_leads version size clients retry high = here (eqb retry 0) refl
   where
-    here : (b : Bool) → eqb retry 0 ≡ b → (o : Option ℕ) × (or_zero o ≡ retry) × Leads (prelude_state version size clients None [] []) (cond b [] (Retries retry ∷ [])) (prelude_state version size clients o [] [])
+    here : (b : Bool) → eqb retry 0 ≡ b
+        → (o : Option ℕ) × (or_zero o ≡ retry) × Leads (prelude_state version size clients None [] []) (cond b [] (Retries retry ∷ [])) (prelude_state version size clients o [] [])
     here true e = (None, sym (eqb-true retry 0 e), record { fits = tt; leaves = refl })
     here false e = (Some retry, refl, record { fits = ((refl, high, refl), tt); leaves = refl })
 
-faults_lead : (version size : ℕ) (clients : List ClientLine) (retry : Option ℕ) (faults : List FaultLine) → Prefixed (IsFaultBehind size clients) [] faults → length faults ≤ 1024
+faults_lead : (version size : ℕ) (clients : List ClientLine) (retry : Option ℕ) (faults : List FaultLine) → Prefixed (IsFaultBehind size clients) [] faults
+    → length faults ≤ 1024
     → Leads (prelude_state version size clients retry [] []) (map (fault_line clients) faults) (prelude_state version size clients retry faults [])
 faults_lead version size clients retry faults h few =
     each (fault_line clients) (λ (fs : List FaultLine). prelude_state version size clients retry fs []) (IsFaultBehind size clients) 1024
@@ -195,7 +186,8 @@ faults_lead version size clients retry faults h few =
     (record { section = refl; attempt = attempt_fits (prelude_state version size clients retry before []) x.id p.attempt; replica_fits = p.replica_fits; nth_low = p.nth_low; nth_high = p.nth_high; injected = p.injected; few = omega (arith, b); fresh = p.fresh }, refl))
     [] faults h (omega (arith, few))
 
-stops_lead : (version size : ℕ) (clients : List ClientLine) (retry : Option ℕ) (faults : List FaultLine) (stops : List StopLine) → Prefixed (IsStopBehind clients) [] stops → length faults + length stops ≤ 1024
+stops_lead : (version size : ℕ) (clients : List ClientLine) (retry : Option ℕ) (faults : List FaultLine) (stops : List StopLine)
+    → Prefixed (IsStopBehind clients) [] stops → length faults + length stops ≤ 1024
     → Leads (prelude_state version size clients retry faults []) (map (stop_line clients) stops) (prelude_state version size clients retry faults stops)
 stops_lead version size clients retry faults stops h few =
     each (stop_line clients) (λ (ss : List StopLine). prelude_state version size clients retry faults ss) (IsStopBehind clients) (length stops)
@@ -212,7 +204,8 @@ at b x keys ended round = record b { section = x; keys = keys; rounds = ended; r
 -- the lines of a list, where a line may change the section
 each_in : {A : Type 0} (line : A → Line) (state : Section → List A → State) (Here : Section → Type 0) (to : Section) → Here to → (P : A → Type 0) (n : ℕ)
     → ((x : Section) → Here x → (before : List A) (a : A) → P a → length before < n → Fits (state x before) (line a) × (after (state x before) (line a) ≡ state to (before ++ a ∷ [])))
-    → (x : Section) → Here x → (before xs : List A) → AllByRecursion P xs → length before + length xs ≤ n → (y : Section) × Here y × Leads (state x before) (map line xs) (state y (before ++ xs))
+    → (x : Section) → Here x → (before xs : List A) → AllByRecursion P xs → length before + length xs ≤ n → (y : Section) × Here y
+    × Leads (state x before) (map line xs) (state y (before ++ xs))
 each_in line state Here to ok P n step x p before [] h few = (x, p, record { fits = tt; leaves = ap (state x) (sym (append-nil before)) })
 each_in {A} line state Here to ok P n step x p before (a ∷ xs) h few =
     let k = step x p before a h.0 (omega (arith, few)) in
@@ -228,10 +221,13 @@ each_in {A} line state Here to ok P n step x p before (a ∷ xs) h few =
 abbrev txn_round : List TxnLine → Round
 txn_round txns = record { txns = txns; takeovers = []; globals = [] }
 
-txns_lead : (b : State) (all : List (List ℕ)) (ended : List Round) → length all ≤ 256 → (txns before : List TxnLine) (x : Section) → IsInRounds x → (keys last : List (List ℕ))
+txns_lead : (b : State) (all : List (List ℕ)) (ended : List Round) → length all ≤ 256 → (txns before : List TxnLine) (x : Section) → IsInRounds x
+    → (keys last : List (List ℕ))
     → TxnsAt b.version b.clients keys txns last → IsMore last all → sum_by txn_count ended + (length before + length txns) ≤ 4096
-    → (y : Section) × IsInRounds y × Leads (at b x keys ended (txn_round before)) (map (txn_line b.clients all) txns) (at b y last ended (txn_round (before ++ txns)))
-txns_lead b all ended keys_few [] before x p keys last h more few = (x, p, record { fits = tt; leaves = λ i. at b x (sym h i) ended (txn_round (sym (append-nil before) i)) })
+    → (y : Section) × IsInRounds y
+    × Leads (at b x keys ended (txn_round before)) (map (txn_line b.clients all) txns) (at b y last ended (txn_round (before ++ txns)))
+txns_lead b all ended keys_few [] before x p keys last h more few =
+    (x, p, record { fits = tt; leaves = λ i. at b x (sym h i) ended (txn_round (sym (append-nil before) i)) })
 txns_lead b all ended keys_few (t ∷ ts) before x p keys last h more few =
     let s = at b x keys ended (txn_round before) in
     let one = h.1 in
@@ -241,16 +237,22 @@ txns_lead b all ended keys_few (t ∷ ts) before x p keys last h more few =
     let now_more : IsMore (keys_after keys ms) all = subst (λ (k : List (List ℕ)). IsMore k all) one.grown mid_more in
     let items_are : map (mention_in all) t.items ≡ ms = ap (map (mention_in all)) one.items ∙ mentions_back keys ms (keys_after keys ms) all refl now_more in
     let keys_fit : length (keys_after keys ms) ≤ 256 = omega (arith, keys_few, ap length now_more.all_are, length-append (keys_after keys ms) now_more.more) in
-    let named : Fits s (Tries one.owner.name t.client t.clock ms) = record { section = p; well_named = one.owner.well_named; declared = one.owner.number; clock_fits = one.clock_fits; mentions_fit = one.fit; some = one.some; few = one.few; keys = keys_fit; txns = omega (arith, few) } in
-    let fits : Fits s (txn_line b.clients all t) = subst (λ (m : List Mention). Fits s (Tries (client_name b.clients t.client) t.client t.clock m)) (sym items_are) (subst (λ (n : List ℕ). Fits s (Tries n t.client t.clock ms)) (sym name) named) in
-    let made : after s (Tries (client_name b.clients t.client) t.client t.clock ms) ≡ at b sections.Round h.0 ended (txn_round (before ++ t ∷ [])) = λ i. at b sections.Round (sym one.grown i) ended (txn_round (before ++ record { client = t.client; clock = t.clock; items = sym one.items i } ∷ [])) in
-    let leaves : after s (txn_line b.clients all t) ≡ at b sections.Round h.0 ended (txn_round (before ++ t ∷ [])) = ap (λ (m : List Mention). after s (Tries (client_name b.clients t.client) t.client t.clock m)) items_are ∙ made in
+    let named : Fits s (Tries one.owner.name t.client t.clock ms) =
+    record { section = p; well_named = one.owner.well_named; declared = one.owner.number; clock_fits = one.clock_fits; mentions_fit = one.fit; some = one.some; few = one.few; keys = keys_fit; txns = omega (arith, few) } in
+    let fits : Fits s (txn_line b.clients all t) =
+    subst (λ (m : List Mention). Fits s (Tries (client_name b.clients t.client) t.client t.clock m)) (sym items_are) (subst (λ (n : List ℕ). Fits s (Tries n t.client t.clock ms)) (sym name) named) in
+    let made : after s (Tries (client_name b.clients t.client) t.client t.clock ms) ≡ at b sections.Round h.0 ended (txn_round (before ++ t ∷ [])) =
+    λ i. at b sections.Round (sym one.grown i) ended (txn_round (before ++ record { client = t.client; clock = t.clock; items = sym one.items i } ∷ [])) in
+    let leaves : after s (txn_line b.clients all t) ≡ at b sections.Round h.0 ended (txn_round (before ++ t ∷ [])) =
+    ap (λ (m : List Mention). after s (Tries (client_name b.clients t.client) t.client t.clock m)) items_are ∙ made in
     let rest = txns_lead b all ended keys_few ts (before ++ t ∷ []) sections.Round (inr refl) h.0 last h.2 more (omega (arith, few, length-append before (t ∷ []))) in (
       rest.0,
       rest.1,
       record {
         fits = (fits, subst (λ (x : State). EachFits x (map (txn_line b.clients all) ts)) (sym leaves) rest.2.fits);
-        leaves = ap (λ (x : State). after_all x (map (txn_line b.clients all) ts)) leaves ∙ rest.2.leaves ∙ ap (λ (l : List TxnLine). at b rest.0 last ended (txn_round l)) (append_assoc before (t ∷ []) ts);
+        leaves =
+            ap (λ (x : State). after_all x (map (txn_line b.clients all) ts)) leaves ∙ rest.2.leaves
+            ∙ ap (λ (l : List TxnLine). at b rest.0 last ended (txn_round l)) (append_assoc before (t ∷ []) ts);
       },
     )
 
@@ -260,7 +262,8 @@ record AreFew (ended : List Round) (round : Round) : Type 0 where
   takeovers : sum_by takeover_count ended + takeover_count round ≤ 1024
   globals : sum_by global_count ended + global_count round ≤ 256
 
-round_leads : (b : State) (all : List (List ℕ)) (ended : List Round) → length all ≤ 256 → (x : Section) → IsInRounds x → (keys : List (List ℕ)) (round : Round) (last : List (List ℕ))
+round_leads : (b : State) (all : List (List ℕ)) (ended : List Round) → length all ≤ 256 → (x : Section) → IsInRounds x
+    → (keys : List (List ℕ)) (round : Round) (last : List (List ℕ))
     → IsRoundAt b.version b.size b.clients keys round last → IsMore last all → AreFew ended round
     → (y : Section) × IsBehindPrelude y × Leads (at b x keys ended no_lines) (round_lines b.clients all round) (at b y last ended round)
 round_leads b all ended keys_few x p keys round last h more few =
@@ -281,8 +284,10 @@ round_leads b all ended keys_few x p keys round last h more few =
           (then (taken ts.0 []) (changed ks.0 []) (changed gs.0 round.globals) (map (takeover_line b.clients) round.takeovers) (map global_line round.globals) ks.2 gs.2),
     )
 
-part_sum : (f : Round → ℕ) (before : List Round) (cur next : Round) (more rounds : List Round) → before ++ cur ∷ next ∷ more ≡ rounds → sum_by f (before ++ cur ∷ []) + f next ≤ sum_by f rounds
-part_sum f before cur next more rounds e = omega (arith, ap (sum_by f) e, sum_by-append f before (cur ∷ next ∷ more), sum_by-append f before (cur ∷ []), sum_by-cons f cur (next ∷ more), sum_by-cons f next more, sum_by-cons f cur [])
+part_sum : (f : Round → ℕ) (before : List Round) (cur next : Round) (more rounds : List Round) → before ++ cur ∷ next ∷ more ≡ rounds
+    → sum_by f (before ++ cur ∷ []) + f next ≤ sum_by f rounds
+part_sum f before cur next more rounds e =
+    omega (arith, ap (sum_by f) e, sum_by-append f before (cur ∷ next ∷ more), sum_by-append f before (cur ∷ []), sum_by-cons f cur (next ∷ more), sum_by-cons f next more, sum_by-cons f cur [])
 
 head_sum : (f : Round → ℕ) (r : Round) (rs : List Round) (n : ℕ) → sum_by f (r ∷ rs) ≤ n → sum_by f [] + f r ≤ n
 head_sum f r rs n h = omega (arith, h, sum_by-cons f r rs)
@@ -296,10 +301,12 @@ record AreLed (b : State) (s : State) (lines : List Line) (last : List (List ℕ
   are : ended ++ cur ∷ [] ≡ rounds
   leads : Leads s lines (at b section last ended cur)
 
-next_rounds_lead : (b : State) (all : List (List ℕ)) (rounds : List Round) → AreRounds b.version b.size b.clients all rounds → (rs ended : List Round) (cur : Round) → ended ++ cur ∷ rs ≡ rounds
+next_rounds_lead : (b : State) (all : List (List ℕ)) (rounds : List Round) → AreRounds b.version b.size b.clients all rounds
+    → (rs ended : List Round) (cur : Round) → ended ++ cur ∷ rs ≡ rounds
     → (x : Section) → IsBehindPrelude x → (keys last : List (List ℕ)) → RoundsAt b.version b.size b.clients keys rs last → IsMore last all
     → AreLed b (at b x keys ended cur) (flat_map (next_lines b.clients all) rs) last rounds
-next_rounds_lead b all rounds w [] ended cur e x p keys last h more = record { section = x; behind = p; ended = ended; cur = cur; are = e; leads = record { fits = tt; leaves = λ i. at b x (sym h i) ended cur } }
+next_rounds_lead b all rounds w [] ended cur e x p keys last h more =
+    record { section = x; behind = p; ended = ended; cur = cur; are = e; leads = record { fits = tt; leaves = λ i. at b x (sym h i) ended cur } }
 next_rounds_lead b all rounds w (r ∷ rs) ended cur e x p keys last h more =
     let before = ended ++ cur ∷ [] in
     let few : AreFew before r = record {
@@ -328,7 +335,8 @@ rounds_lead : (b : State) (all : List (List ℕ)) (rounds : List Round) → AreR
 rounds_lead b all [] w = absurd (omega (arith, w.some))
 rounds_lead b all (r ∷ rs) w =
     let h = w.numbered in
-    let few : AreFew [] r = record { txns = head_sum txn_count r rs 4096 w.txns_few; takeovers = head_sum takeover_count r rs 1024 w.takeovers_few; globals = head_sum global_count r rs 256 w.globals_few } in
+    let few : AreFew [] r =
+    record { txns = head_sum txn_count r rs 4096 w.txns_few; takeovers = head_sum takeover_count r rs 1024 w.takeovers_few; globals = head_sum global_count r rs 256 w.globals_few } in
     let one = round_leads b all [] w.keys_few sections.Prelude (inl refl) [] r h.0 h.1 (rounds_more b.version b.size b.clients h.0 rs all h.2) few in
     let rest = next_rounds_lead b all (r ∷ rs) w rs [] r refl one.0 one.1 h.0 all h.2 (same_more all all refl) in
     record {
@@ -337,7 +345,8 @@ rounds_lead b all (r ∷ rs) w =
       ended = rest.ended;
       cur = rest.cur;
       are = rest.are;
-      leads = then (at b sections.Prelude [] [] no_lines) (at b one.0 h.0 [] r) (at b rest.section all rest.ended rest.cur) (round_lines b.clients all r) (flat_map (next_lines b.clients all) rs) one.2 rest.leads;
+      leads =
+          then (at b sections.Prelude [] [] no_lines) (at b one.0 h.0 [] r) (at b rest.section all rest.ended rest.cur) (round_lines b.clients all r) (flat_map (next_lines b.clients all) rs) one.2 rest.leads;
     }
 
 -- ---- the whole script
@@ -351,7 +360,9 @@ said (line ∷ lines) s sized h =
 
 text_is : (lines : List Line) → text_of lines ≡ flat_map ended (map spelling lines)
 text_is [] = refl
-text_is (line ∷ lines) = flat_map-cons line_text line lines ∙ ap (λ (x : List ℕ). line_text line ++ x) (text_is lines) ∙ sym (flat_map-cons ended (spelling line) (map spelling lines))
+text_is (line ∷ lines) =
+    flat_map-cons line_text line lines ∙ ap (λ (x : List ℕ). line_text line ++ x) (text_is lines)
+    ∙ sym (flat_map-cons ended (spelling line) (map spelling lines))
 
 -- the text that is printed of a script stands for it
 pub IsScript-print_text : (s : ScriptParts) → IsWhole s → IsScript (print_text s) s
@@ -382,14 +393,17 @@ IsScript-print_text s w =
       last = last;
       says = subst (λ (t : State). Say nothing (map spelling (lines_of s)) t) all.leaves says;
       sized = led.behind;
-      whole = λ i. record { version = s.version; size = s.size; clients = s.clients; keys = s.keys; retry = sym r.1 i; faults = s.faults; stops = s.stops; rounds = sym led.are i };
+      whole =
+          λ i. record { version = s.version; size = s.size; clients = s.clients; keys = s.keys; retry = sym r.1 i; faults = s.faults; stops = s.stops; rounds = sym led.are i };
     }
 
-pub stands : {E : Type 0} (r : Result (Vec ℕ Global) E) (s : ScriptParts) → IfOk r (λ bytes. bytes.items ≡ print_text s) → OnOk r (IsWhole s) → IfOk r (λ bytes. IsScript bytes.items s)
+pub stands : {E : Type 0} (r : Result (Vec ℕ Global) E) (s : ScriptParts) → IfOk r (λ bytes. bytes.items ≡ print_text s) → OnOk r (IsWhole s)
+    → IfOk r (λ bytes. IsScript bytes.items s)
 stands (Ok bytes) s text whole = subst (λ (b : List ℕ). IsScript b s) (sym text) (IsScript-print_text s whole)
 stands (Err e) s text whole = tt
 
 -- and it is parsed to it
-pub parsed : {E : Type 0} (r : Result (Vec ℕ Global) E) (s : ScriptParts) → IfOk r (λ bytes. IsScript bytes.items s) → IfOk r (λ bytes. script_text bytes.items ≡ Ok s)
+pub parsed : {E : Type 0} (r : Result (Vec ℕ Global) E) (s : ScriptParts) → IfOk r (λ bytes. IsScript bytes.items s)
+    → IfOk r (λ bytes. script_text bytes.items ≡ Ok s)
 parsed (Ok bytes) s h = text_from_IsScript bytes.items s h
 parsed (Err e) s h = tt

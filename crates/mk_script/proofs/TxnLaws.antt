@@ -1,11 +1,11 @@
 -- The end of a txn line.
 use Rattle.std.proofs.Common.{◌≡◌, ℕ, ◌≤◌, ◌^◌, Bool, true, false, leb, ltb, List, length, min, Some, Result, Ok, Err, refl, arith, map}
 use Rattle.std.proofs.lemmas.Bool.Decides.{nat_tests}
-use Rattle.mk_text.specs.declared.fault.TextFault.{TextFault}
-use Rattle.mk_text.specs.declared.fault.TextFault.TheVariants as faults
-use Rattle.mk_text.specs.Words.{is_name, number}
-use Rattle.mk_text.specs.Fields.{◌>>=◌, ◌>>◌, need, found, two_and_more}
-use Rattle.mk_text.proofs.FieldLaws.{found_ok}
+use Rattle.mk_spelling.specs.declared.fault.TextFault.{TextFault}
+use Rattle.mk_spelling.specs.declared.fault.TextFault.TheVariants as faults
+use Rattle.mk_spelling.specs.Words.{is_name, number}
+use Rattle.mk_spelling.specs.Fields.{◌>>=◌, ◌>>◌, need, found, two_and_more}
+use Rattle.mk_spelling.proofs.FieldLaws.{found_ok}
 use Rattle.mk_script.specs.Scripts.{State, client_number, txn_count, total}
 use Rattle.mk_script.specs.Grammar.{Mention, keys_after, item_of, with_txn}
 use Rattle.mk_script.specs.ItemShapes.{are_items, mentions_of}

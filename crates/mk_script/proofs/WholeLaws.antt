@@ -5,25 +5,25 @@ use Rattle.std.specs.List.{flat_map, join_with_byte}
 use Rattle.std.proofs.lemmas.List.Concat.{flat_map-cons}
 use Rattle.std.proofs.lemmas.List.Splits.{join_with_byte-slice_split}
 use Rattle.std.proofs.lemmas.Bool.{eqb-true}
-use Rattle.mk_text.specs.declared.fault.TextFault.{TextFault}
-use Rattle.mk_text.specs.declared.fault.TextFault.TheVariants as faults
-use Rattle.mk_text.specs.Lines.{Refusal, next_number, go_on, read_parts, read_text}
-use Rattle.mk_text.proofs.Cuts.{Lacks, Lacks-from_test}
-use Rattle.mk_text.proofs.FieldLaws.{need_ok, ok_is}
-use Rattle.mk_text.proofs.TextLaws.{parts, parts-front, parts_cons}
+use Rattle.mk_spelling.specs.declared.fault.TextFault.{TextFault}
+use Rattle.mk_spelling.specs.declared.fault.TextFault.TheVariants as faults
+use Rattle.mk_spelling.specs.Lines.{Refusal, next_number, go_on, read_parts, read_text}
+use Rattle.mk_spelling.proofs.Cuts.{Lacks, Lacks-from_test}
+use Rattle.mk_spelling.proofs.FieldLaws.{need_ok, ok_is}
+use Rattle.mk_spelling.proofs.TextLaws.{parts, parts-front, parts_cons}
 use Rattle.mk_script.specs.Scripts.{ScriptParts, State, nothing, script_of}
 use Rattle.mk_script.specs.Grammar.{Line, IsBehindPrelude, Fits, after, Says, Say}
 use Rattle.mk_script.specs.Grammar.Line.{Opens, Sizes, Declares, Retries, Injects, Halts, Tries, TakesOver, Changes, NextRound}
 use Rattle.mk_script.specs.Faults.{behind_prelude, line_result, end_result}
 use Rattle.mk_script.specs.Texts.{ended, IsScript}
-use Rattle.mk_script.specs.Parsed.{Answers, Refuses, state_text, script_text, scripted}
+use Rattle.mk_script.specs.Parsed.{Answers, state_text, script_text, scripted}
 use Rattle.mk_script.specs.declared.parsing.ScriptError.{ScriptError}
 use Rattle.mk_script.specs.declared.parsing.ScriptError.TheVariants as refusals
 use Rattle.mk_script.proofs.Passed.{behind_from, to_behind}
 use Rattle.mk_script.proofs.LineLaws.{Says-from_result}
 use Rattle.mk_script.proofs.Again.{result-from_Says}
 use Rattle.mk_script.proofs.Printable.{printed_line}
-use Rattle.mk_text.specs.Words.{is_printable}
+use Rattle.mk_spelling.specs.Words.{is_printable}
 
 abbrev pub IsSmall : State → Type 0
 IsSmall s = s.size ≤ 3
@@ -44,7 +44,8 @@ small_says : (s : State) (bytes : List ℕ) (t : State) → IsSmall s → Says s
 small_says s bytes t h (inl k) = subst (λ (x : State). IsSmall x) (sym k.2) h
 small_says s bytes t h (inr k) = subst (λ (x : State). IsSmall x) (sym k.leaves) (small_after s k.line h k.fits)
 
-taken : (n : ℕ) (r : Result State TextFault) (next : State → Result State Refusal) (t : State) → go_on n r next ≡ Ok t → (mid : State) × (r ≡ Ok mid) × (next mid ≡ Ok t)
+taken : (n : ℕ) (r : Result State TextFault) (next : State → Result State Refusal) (t : State) → go_on n r next ≡ Ok t
+    → (mid : State) × (r ≡ Ok mid) × (next mid ≡ Ok t)
 taken n (Ok mid) next t e = (mid, refl, e)
 taken n (Err f) next t e = absurd cc
 
@@ -66,7 +67,8 @@ empty_from : (part : List ℕ) → eqb (length part) 0 ≡ true → part ≡ []
 empty_from [] e = refl
 empty_from (b ∷ bs) e = let h = eqb-true (length (b ∷ bs)) 0 e in absurd (omega arith)
 
-read-back : (xs : List (List ℕ)) (s : State) (n : ℕ) (t : State) → IsSmall s → 0 < length xs → read_parts line_result end_result s n xs ≡ Ok t → IsRead s (join_with_byte 10 xs) t
+read-back : (xs : List (List ℕ)) (s : State) (n : ℕ) (t : State) → IsSmall s → 0 < length xs → read_parts line_result end_result s n xs ≡ Ok t
+    → IsRead s (join_with_byte 10 xs) t
 read-back [] s n t small some e = absurd (omega arith)
 read-back (part ∷ []) s n t small some e = here (eqb (length part) 0) refl e
   where
@@ -81,7 +83,9 @@ read-back (part ∷ next ∷ more) s n t small some e =
     let rest = read-back (next ∷ more) m.0 (next_number n) t (small_says s part m.0 small says) (omega arith) m.2 in
     record {
       lines = part ∷ rest.lines;
-      text = ap (λ (x : List ℕ). part ++ 10 ∷ x) rest.text ∙ sym (append_assoc part (10 ∷ []) (flat_map ended rest.lines)) ∙ sym (flat_map-cons ended part rest.lines);
+      text =
+          ap (λ (x : List ℕ). part ++ 10 ∷ x) rest.text ∙ sym (append_assoc part (10 ∷ []) (flat_map ended rest.lines))
+          ∙ sym (flat_map-cons ended part rest.lines);
       last = rest.last;
       says = (m.0, says, rest.says);
       ends = rest.ends;
@@ -92,13 +96,15 @@ says_printable : (s : State) (bytes : List ℕ) (t : State) → IsSmall s → Sa
 says_printable s bytes t small (inl h) = h.0
 says_printable s bytes t small (inr h) = ap is_printable h.text ∙ printed_line s h.line small h.fits
 
-read-again : (lines : List (List ℕ)) (s : State) (n : ℕ) (last t : State) → IsSmall s → Say s lines last → end_result last ≡ Ok t → read_parts line_result end_result s n (parts (flat_map ended lines)) ≡ Ok t
+read-again : (lines : List (List ℕ)) (s : State) (n : ℕ) (last t : State) → IsSmall s → Say s lines last → end_result last ≡ Ok t
+    → read_parts line_result end_result s n (parts (flat_map ended lines)) ≡ Ok t
 read-again [] s n last t small says e = ap (λ (r : Result State TextFault). go_on n r (λ x. Ok x)) (ap end_result (sym says) ∙ e)
 read-again (line ∷ lines) s n last t small says e =
     let small' = small_says s line says.0 small says.1 in
     let rest = read-again lines says.0 (next_number n) last t small' says.2 e in
     let lacks : Lacks 10 line = Lacks-from_test (λ b. leb 32 b && leb b 126) line 10 (says_printable s line says.0 small says.1) refl in
-    let cut_again : parts (flat_map ended (line ∷ lines)) ≡ line ∷ parts (flat_map ended lines) = ap parts (flat_map-cons ended line lines ∙ append_assoc line (10 ∷ []) (flat_map ended lines)) ∙ parts-front line (flat_map ended lines) lacks in
+    let cut_again : parts (flat_map ended (line ∷ lines)) ≡ line ∷ parts (flat_map ended lines) =
+    ap parts (flat_map-cons ended line lines ∙ append_assoc line (10 ∷ []) (flat_map ended lines)) ∙ parts-front line (flat_map ended lines) lacks in
     let c = parts_cons (flat_map ended lines) in
     let r = result-from_Says s line says.0 small says.1 in
     let next = λ (x : State). read_parts line_result end_result x (next_number n) (parts (flat_map ended lines)) in
@@ -178,10 +184,6 @@ found_law (Err e) bytes h = tt
 
 pub only_law : (r : Result ScriptParts ScriptError) (bytes : List ℕ) (s : ScriptParts) → IsScript bytes s → Answers r (script_text bytes) → Answers r (Ok s)
 only_law r bytes s h k = subst (λ (answer : Result ScriptParts Refusal). Answers r answer) (text_from_IsScript bytes s h) k
-
-pub exact_err : (e : ScriptError) (bytes : List ℕ) → Refuses e (state_text bytes) → Refuses e (script_text bytes)
-exact_err refusals.NoMemory bytes h = tt
-exact_err (refusals.Refused line why) bytes h = ap scripted h
 
 pub size_of_text : (bytes : List ℕ) (t : State) → state_text bytes ≡ Ok t → (1 ≤ t.size) × (t.size ≤ 3)
 size_of_text bytes t e =

@@ -1,13 +1,13 @@
 -- What a line says, or its first fault, in the order of the tests.
 use Rattle.std.specs.Prelude.{◌+◌, ◌*◌, ◌^◌, ℕ, Bool, true, false, not, ◌==◌, nat_lt, nat_le, List, [], ◌∷◌, length, Result, Ok, Err, is_some, if◌then◌else◌}
 use Rattle.std.specs.List.{list_any}
-use Rattle.mk_text.specs.declared.fault.TextFault.{TextFault}
-use Rattle.mk_text.specs.declared.fault.TextFault.TheVariants as faults
-use Rattle.mk_text.specs.Words.{words, cut, is_name, number, is_printable, is_empty, none_left}
-use Rattle.mk_text.specs.Fields.{◌>>=◌, ◌>>◌, need, found, named, place, one_of, two_of, three_of, five_of, two_and_more}
+use Rattle.mk_spelling.specs.declared.fault.TextFault.{TextFault}
+use Rattle.mk_spelling.specs.declared.fault.TextFault.TheVariants as faults
+use Rattle.mk_spelling.specs.Words.{words, cut, is_name, number, is_printable, is_empty, none_left}
+use Rattle.mk_spelling.specs.Fields.{◌>>=◌, ◌>>◌, need, found, named, place, one_of, two_of, three_of, five_of, two_and_more}
 use Rattle.mk_txn.specs.declared.TxnId.{TxnId}
-use Rattle.mk_global.specs.declared.GlobalLine.{GlobalLine}
-use Rattle.mk_global.specs.declared.GlobalLine.TheVariants as globals
+use Rattle.mk_words.specs.declared.GlobalLine.{GlobalLine}
+use Rattle.mk_words.specs.declared.GlobalLine.TheVariants as globals
 use Rattle.mk_script.specs.declared.words.Section.{Section}
 use Rattle.mk_script.specs.declared.words.Section.TheVariants as sections
 use Rattle.mk_script.specs.declared.words.Keyword.{Keyword}

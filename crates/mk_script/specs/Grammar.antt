@@ -2,17 +2,17 @@
 use Rattle.std.specs.Prelude.{◌≡◌, ◌≢◌, ◌⊎◌, ◌≤◌, ◌<◌, ◌+◌, ◌*◌, ◌^◌, ℕ, Bool, true, false, List, [], ◌∷◌, ◌++◌, length, map, Some, None, codes, ◌&&◌, ◌==◌}
 use Rattle.std.specs.List.{join_with_byte, list_any, AllByRecursion}
 use Rattle.std.specs.Fmt.{decimal}
-use Rattle.mk_text.specs.Words.{is_name, is_printable}
-use Rattle.mk_text.specs.Fields.{place}
+use Rattle.mk_spelling.specs.Words.{is_name, is_printable}
+use Rattle.mk_spelling.specs.Fields.{place}
 use Rattle.mk_names.specs.NameLists.{with_name}
 use Rattle.mk_txn.specs.declared.TxnId.{TxnId}
 use Rattle.mk_txn.specs.Transactions.{same_id}
-use Rattle.mk_msg.specs.Links.{same_kind}
+use Rattle.mk_words.specs.Links.{same_kind}
 use Rattle.mk_proc.specs.declared.ProcKind.{ProcKind}
 use Rattle.mk_proc.specs.declared.Item.{Item}
 use Rattle.mk_proc.specs.declared.Item.TheVariants as items
-use Rattle.mk_global.specs.declared.GlobalLine.{GlobalLine}
-use Rattle.mk_global.specs.declared.GlobalLine.TheVariants as globals
+use Rattle.mk_words.specs.declared.GlobalLine.{GlobalLine}
+use Rattle.mk_words.specs.declared.GlobalLine.TheVariants as globals
 use Rattle.mk_script.specs.declared.words.Section.{Section}
 use Rattle.mk_script.specs.declared.words.Section.TheVariants as sections
 use Rattle.mk_script.specs.declared.words.Keyword.TheVariants as keywords
@@ -71,7 +71,8 @@ line_words (Opens version) = keyword_text keywords.Meerkat ∷ decimal version �
 line_words (Sizes f) = keyword_text keywords.Size ∷ decimal f ∷ []
 line_words (Declares name column home) = keyword_text keywords.Client ∷ name ∷ decimal column ∷ decimal home ∷ []
 line_words (Retries n) = keyword_text keywords.Retry ∷ decimal n ∷ []
-line_words (Injects name fault) = keyword_text keywords.Fault ∷ kind_text fault.kind ∷ id_text name fault.id.seq ∷ decimal fault.replica ∷ decimal fault.nth ∷ fate_text fault.fate ∷ []
+line_words (Injects name fault) =
+    keyword_text keywords.Fault ∷ kind_text fault.kind ∷ id_text name fault.id.seq ∷ decimal fault.replica ∷ decimal fault.nth ∷ fate_text fault.fate ∷ []
 line_words (Halts name stop) = keyword_text keywords.Stop ∷ id_text name stop.id.seq ∷ point_text stop.point ∷ []
 line_words (Tries name client clock mentions) = keyword_text keywords.Txn ∷ name ∷ decimal clock ∷ map mention_text mentions
 line_words (TakesOver name id view) = keyword_text keywords.Takeover ∷ id_text name id.seq ∷ decimal view ∷ []
@@ -234,7 +235,8 @@ after s (Halts name stop) = record s { stops = s.stops ++ stop ∷ [] }
 after s (Tries name client clock mentions) =
     let keys = keys_after s.keys mentions in
     with_txn s keys (record { client = client; clock = clock; items = map (item_of keys) mentions })
-after s (TakesOver name id view) = record s { section = sections.Round; round = record s.round { takeovers = s.round.takeovers ++ record { id = id; view = view } ∷ [] } }
+after s (TakesOver name id view) =
+    record s { section = sections.Round; round = record s.round { takeovers = s.round.takeovers ++ record { id = id; view = view } ∷ [] } }
 after s (Changes line) = record s { section = sections.Globals; round = record s.round { globals = s.round.globals ++ line ∷ [] } }
 after s NextRound = record s { section = sections.Round; rounds = s.rounds ++ s.round ∷ []; round = no_lines }
 

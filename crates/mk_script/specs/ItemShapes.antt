@@ -1,9 +1,9 @@
 -- The items of a transaction as words: their parts, and the tests of these.
 use Rattle.std.specs.Prelude.{ℕ, Bool, true, false, ◌&&◌, ◌==◌, ◌-◌, ◌^◌, nat_lt, slice_index, List, [], ◌∷◌, length, take, Option, Some, None, Result, Ok, Err, if◌then◌else◌}
-use Rattle.mk_text.specs.declared.fault.TextFault.{TextFault}
-use Rattle.mk_text.specs.declared.fault.TextFault.TheVariants as faults
-use Rattle.mk_text.specs.Words.{cut, is_name, number}
-use Rattle.mk_text.specs.Fields.{◌>>=◌, ◌>>◌, need, found, named}
+use Rattle.mk_spelling.specs.declared.fault.TextFault.{TextFault}
+use Rattle.mk_spelling.specs.declared.fault.TextFault.TheVariants as faults
+use Rattle.mk_spelling.specs.Words.{cut, is_name, number}
+use Rattle.mk_spelling.specs.Fields.{◌>>=◌, ◌>>◌, need, found, named}
 use Rattle.mk_script.specs.LineWords.{proc_text, proc_list}
 use Rattle.mk_script.specs.Grammar.{Mention}
 use Rattle.mk_script.specs.Grammar.Mention.{Reads, Writes, Computes, Deletes}

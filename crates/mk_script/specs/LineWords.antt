@@ -2,8 +2,8 @@
 use Rattle.std.specs.Prelude.{ℕ, ◌+◌, List, [], ◌∷◌, ◌++◌, codes}
 use Rattle.mk_proc.specs.declared.ProcKind.{ProcKind}
 use Rattle.mk_proc.specs.declared.ProcKind.TheVariants as procs
-use Rattle.mk_msg.specs.declared.MsgKind.{MsgKind}
-use Rattle.mk_msg.specs.declared.MsgKind.TheVariants as kinds
+use Rattle.mk_words.specs.declared.MsgKind.{MsgKind}
+use Rattle.mk_words.specs.declared.MsgKind.TheVariants as kinds
 use Rattle.mk_script.specs.declared.words.Keyword.{Keyword}
 use Rattle.mk_script.specs.declared.words.Keyword.TheVariants as keywords
 use Rattle.mk_script.specs.declared.lines.Fate.{Fate}

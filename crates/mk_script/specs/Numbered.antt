@@ -1,5 +1,5 @@
 -- Why a name of a line got no number.
-use Rattle.mk_text.specs.declared.fault.TextFault.TheVariants.{Name, Many}
+use Rattle.mk_spelling.specs.declared.fault.TextFault.TheVariants.{Name, Many}
 use Rattle.mk_names.specs.declared.names.NameError.{NameError}
 use Rattle.mk_names.specs.declared.names.NameError.TheVariants as names
 use Rattle.mk_script.specs.declared.error.LineError.{LineError}

@@ -1,6 +1,6 @@
 -- What parsing answers.
 use Rattle.std.specs.Prelude.{◌≡◌, ℕ, List, Result, Ok, Err}
-use Rattle.mk_text.specs.Lines.{Refusal, read_text}
+use Rattle.mk_spelling.specs.Lines.{Refusal, read_text}
 use Rattle.mk_script.specs.declared.error.LineError.{LineError}
 use Rattle.mk_script.specs.declared.error.LineError.TheVariants as errors
 use Rattle.mk_script.specs.declared.parsing.ScriptError.{ScriptError}

@@ -4,7 +4,7 @@ use Rattle.std.specs.Fmt.{decimal}
 use Rattle.std.specs.List.{flat_map}
 use Rattle.mk_proc.specs.declared.Item.{Item}
 use Rattle.mk_proc.specs.declared.Item.TheVariants as items
-use Rattle.mk_global.specs.declared.GlobalLine.{GlobalLine}
+use Rattle.mk_words.specs.declared.GlobalLine.{GlobalLine}
 use Rattle.mk_script.specs.declared.lines.ClientLine.{ClientLine}
 use Rattle.mk_script.specs.declared.lines.FaultLine.{FaultLine}
 use Rattle.mk_script.specs.declared.lines.StopLine.{StopLine}
@@ -83,7 +83,8 @@ rounds_lines clients keys (round ∷ rounds) = round_lines clients keys round ++
 
 -- the lines of a script: the two first, the clients, the retries, the faults, the stops and the rounds
 abbrev pub lines_of : ScriptParts → List Line
-lines_of s = Opens s.version ∷ Sizes s.size ∷ (map client_line s.clients ++ (retry_lines s.retry ++ (map (fault_line s.clients) s.faults ++ (map (stop_line s.clients) s.stops ++ rounds_lines s.clients s.keys s.rounds))))
+lines_of s =
+    Opens s.version ∷ Sizes s.size ∷ (map client_line s.clients ++ (retry_lines s.retry ++ (map (fault_line s.clients) s.faults ++ (map (stop_line s.clients) s.stops ++ rounds_lines s.clients s.keys s.rounds))))
 
 -- the text of a line
 abbrev pub line_text : Line → List ℕ

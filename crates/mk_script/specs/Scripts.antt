@@ -1,6 +1,6 @@
 -- What a script says, and what its lines so far said.
 use Rattle.std.specs.Prelude.{ℕ, ◌+◌, List, [], ◌∷◌, ◌++◌, length, map, Option, Some, None, sum_by}
-use Rattle.mk_text.specs.Fields.{place, one_on}
+use Rattle.mk_spelling.specs.Fields.{place, one_on}
 use Rattle.mk_script.specs.declared.words.Section.{Section}
 use Rattle.mk_script.specs.declared.words.Section.TheVariants as sections
 use Rattle.mk_script.specs.declared.lines.ClientLine.{ClientLine}
@@ -38,7 +38,8 @@ pub record State : Type 0 where
 
 -- no line was read
 abbrev pub nothing : State
-nothing = record { section = sections.Start; version = 0; size = 0; clients = []; keys = []; retry = None; faults = []; stops = []; rounds = []; round = no_lines }
+nothing =
+    record { section = sections.Start; version = 0; size = 0; clients = []; keys = []; retry = None; faults = []; stops = []; rounds = []; round = no_lines }
 
 -- no number counts as 0
 abbrev pub or_zero : Option ℕ → ℕ
@@ -47,7 +48,8 @@ or_zero (Some n) = n
 
 -- the script, where its last round ends here
 abbrev pub script_of : State → ScriptParts
-script_of s = record { version = s.version; size = s.size; clients = s.clients; keys = s.keys; retry = or_zero s.retry; faults = s.faults; stops = s.stops; rounds = s.rounds ++ s.round ∷ [] }
+script_of s =
+    record { version = s.version; size = s.size; clients = s.clients; keys = s.keys; retry = or_zero s.retry; faults = s.faults; stops = s.stops; rounds = s.rounds ++ s.round ∷ [] }
 
 -- the name that a client line declares
 abbrev pub name_of : ClientLine → List ℕ

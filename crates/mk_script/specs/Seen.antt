@@ -1,8 +1,8 @@
 -- What the code's borrowed items stand for, and what a call that reads a line leaves.
 use Rattle.std.specs.Prelude.{◌≡◌, ◌<◌, nat_lt, nat_le, map, List, [], length, min, ℕ, Option, Some, None, Result, Ok, Err}
-use Rattle.mk_text.specs.declared.fault.TextFault.{TextFault}
-use Rattle.mk_text.specs.declared.fault.TextFault.TheVariants.{Many}
-use Rattle.mk_text.specs.Fields.{◌>>◌, need}
+use Rattle.mk_spelling.specs.declared.fault.TextFault.{TextFault}
+use Rattle.mk_spelling.specs.declared.fault.TextFault.TheVariants.{Many}
+use Rattle.mk_spelling.specs.Fields.{◌>>◌, need}
 use Rattle.mk_script.specs.declared.items.ItemShape.{ItemShape}
 use Rattle.mk_script.specs.declared.items.ItemShape.TheVariants as shapes
 use Rattle.mk_script.specs.declared.items.Named.{Named}

@@ -1,8 +1,8 @@
 -- What holds of every script: its limits, its numberings, and the rules of its lines.
 use Rattle.std.specs.Prelude.{◌≡◌, ◌≢◌, ◌+◌, ◌*◌, ◌<◌, ◌≤◌, ◌^◌, ℕ, true, false, List, [], ◌∷◌, ◌++◌, length, map, Some, None, sum_by}
 use Rattle.std.specs.List.{list_any, AllByRecursion}
-use Rattle.mk_text.specs.Words.{is_name}
-use Rattle.mk_text.specs.Fields.{place, one_on}
+use Rattle.mk_spelling.specs.Words.{is_name}
+use Rattle.mk_spelling.specs.Fields.{place, one_on}
 use Rattle.mk_txn.specs.declared.TxnId.{TxnId}
 use Rattle.mk_script.specs.declared.lines.Fate.TheVariants as fates
 use Rattle.mk_script.specs.declared.lines.ClientLine.{ClientLine}
@@ -83,7 +83,8 @@ pub record IsRoundAt (version size : ℕ) (clients : List ClientLine) (keys : Li
 -- rounds, one behind the other
 abbrev pub RoundsAt : ℕ → ℕ → List ClientLine → List (List ℕ) → List Round → List (List ℕ) → Type 0
 RoundsAt version size clients keys [] after = after ≡ keys
-RoundsAt version size clients keys (round ∷ rounds) after = (mid : List (List ℕ)) × IsRoundAt version size clients keys round mid × RoundsAt version size clients mid rounds after
+RoundsAt version size clients keys (round ∷ rounds) after =
+    (mid : List (List ℕ)) × IsRoundAt version size clients keys round mid × RoundsAt version size clients mid rounds after
 
 -- the version, the size and the retries
 pub record IsHead (version size retry : ℕ) : Type 0 where

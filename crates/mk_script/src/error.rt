@@ -8,7 +8,7 @@ use mk_txn::NoMemory;
 use std::alloc::{AllocError, AllocFailed};
 
 /// Why a line was not taken.
-#[derive(Debug, Drop)]
+#[derive(Drop)]
 pub enum LineError {
     Memory,
     Fault(TextFault),

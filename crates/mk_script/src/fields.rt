@@ -1,17 +1,16 @@
 //! The fields of lines.
 ghost use Rattle.std.specs.Prelude.{◌≡◌};
 ghost use Rattle.std.specs.List.{list_any};
-ghost use Rattle.mk_text.specs.Fields.{found, named};
-ghost use Rattle.mk_text.specs.declared.fault.TextFault.TheVariants.{Unknown};
-ghost use Rattle.mk_msg.specs.Links as links;
+ghost use Rattle.mk_spelling.specs.Fields.{found, named};
+ghost use Rattle.mk_spelling.specs.declared.fault.TextFault.TheVariants.{Unknown};
 ghost use Rattle.mk_script.specs.LineWords as texts;
 ghost use Rattle.mk_script.specs.Grammar as grammar;
 ghost use Rattle.mk_script.specs.Faults as spec;
 
 use crate::lines::{Fate, FaultLine, Point, StopLine};
 use crate::words::{Keyword, Section};
-use mk_msg::MsgKind;
 use mk_text::TextFault;
+use mk_words::MsgKind;
 
 fn prelude_keyword(word: &[u8]) -> Option<Keyword>
     ensures { result ≡ named texts.keyword_text texts.prelude_keywords word.now }
@@ -157,29 +156,10 @@ pub fn behind_prelude(section: Section) -> bool
     )
 }
 
-fn kind_number(kind: MsgKind) -> u32
-    ensures { result ≡ links.kind_number kind }
-{
-    match kind {
-        MsgKind::Validate => 0,
-        MsgKind::Vote => 1,
-        MsgKind::Accept => 2,
-        MsgKind::Accepted => 3,
-        MsgKind::Decide => 4,
-        MsgKind::Ask => 5,
-        MsgKind::Told => 6,
-        MsgKind::Moved => 7,
-    }
-}
-
 fn same_message(a: &FaultLine, b: &FaultLine) -> bool
     ensures { result ≡ grammar.same_message a.now b.now }
 {
-    kind_number(b.kind) == kind_number(a.kind)
-        && b.id.client == a.id.client
-        && b.id.seq == a.id.seq
-        && b.replica == a.replica
-        && b.nth == a.nth
+    b.kind == a.kind && b.id == a.id && b.replica == a.replica && b.nth == a.nth
 }
 
 /// Whether a fault line of this message is there.
@@ -193,5 +173,5 @@ pub fn has_fault(faults: &[FaultLine], fault: &FaultLine) -> bool
 pub fn has_stop(stops: &[StopLine], stop: &StopLine) -> bool
     ensures { result ≡ list_any (grammar.same_attempt stop.now) stops.now }
 {
-    stops.iter().any(|other| other.id.client == stop.id.client && other.id.seq == stop.id.seq)
+    stops.iter().any(|other| other.id == stop.id)
 }

@@ -1,9 +1,9 @@
 //! The items of a transaction as words.
 ghost use Rattle.std.specs.Prelude.{◌≡◌};
-ghost use Rattle.mk_text.specs.Words as text;
-ghost use Rattle.mk_text.specs.Words.{seen_one};
-ghost use Rattle.mk_text.specs.Fields.{found, named};
-ghost use Rattle.mk_text.specs.declared.fault.TextFault.TheVariants.{Unknown};
+ghost use Rattle.mk_spelling.specs.Words as text;
+ghost use Rattle.mk_spelling.specs.Words.{seen_one};
+ghost use Rattle.mk_spelling.specs.Fields.{found, named};
+ghost use Rattle.mk_spelling.specs.declared.fault.TextFault.TheVariants.{Unknown};
 ghost use Rattle.mk_script.specs.Seen.{seen_shape, seen_named, counted};
 ghost use Rattle.mk_script.specs.LineWords as texts;
 ghost use Rattle.mk_script.specs.ItemShapes as spec;

@@ -1,6 +1,6 @@
 //! The numbers of keys.
 ghost use Rattle.std.specs.Prelude.{◌≡◌, ◌<◌, ◌≤◌, IsTrue, IsOk, IfOk, IfErr, OnOk, length, map};
-ghost use Rattle.mk_text.specs.Words.{is_name, words};
+ghost use Rattle.mk_spelling.specs.Words.{is_name, words};
 ghost use Rattle.mk_names.specs.NameLists.{with_name};
 ghost use Rattle.mk_script.specs.Grammar.{keys_after, number_of, item_of, key_of};
 ghost use Rattle.mk_script.specs.ItemShapes.{mentions_of};

@@ -16,9 +16,7 @@ pub use lines::{
     ClientLine, Fate, FaultLine, Lines, Name, Point, Round, StopLine, TakeoverLine, TxnLine,
 };
 pub use mk_text::TextFault;
+pub use mk_words::GlobalLine;
 pub use parsing::{ScriptError, parse};
 pub use printing::print;
 pub use script::Script;
-
-#[cfg(test)]
-mod tests;

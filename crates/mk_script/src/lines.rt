@@ -1,12 +1,11 @@
 //! The lines of a script.
-use mk_global::GlobalLine;
-use mk_msg::MsgKind;
 use mk_proc::Item;
 use mk_txn::TxnId;
+use mk_words::{GlobalLine, MsgKind};
 use std::marker::Model;
 
 /// What becomes of a message.
-#[derive(Clone, Copy, Debug, PartialEq, Eq)]
+#[derive(Clone, Copy, PartialEq, Eq)]
 pub enum Fate {
     /// It is taken at once, as without a fault line.
     Deliver,
@@ -21,7 +20,7 @@ pub enum Fate {
 }
 
 /// Where a stop line acts: after the reads, after the votes, or after the accepts.
-#[derive(Clone, Copy, Debug, PartialEq, Eq)]
+#[derive(Clone, Copy, PartialEq, Eq)]
 pub enum Point {
     Read,
     Votes,
@@ -29,7 +28,7 @@ pub enum Point {
 }
 
 /// The fate of one message: the `nth` of its kind, attempt and replica, counted from 1.
-#[derive(Clone, Copy, Debug, PartialEq, Eq)]
+#[derive(Clone, Copy)]
 pub struct FaultLine {
     pub kind: MsgKind,
     pub id: TxnId,
@@ -39,21 +38,21 @@ pub struct FaultLine {
 }
 
 /// The coordinator of this attempt stops at this point.
-#[derive(Clone, Copy, Debug, PartialEq, Eq)]
+#[derive(Clone, Copy)]
 pub struct StopLine {
     pub id: TxnId,
     pub point: Point,
 }
 
 /// A takeover of this attempt at this view.
-#[derive(Clone, Copy, Debug, PartialEq, Eq)]
+#[derive(Clone, Copy)]
 pub struct TakeoverLine {
     pub id: TxnId,
     pub view: u32,
 }
 
 /// The name of a client, seen as its bytes.
-#[derive(Debug, Drop)]
+#[derive(Drop)]
 pub struct Name {
     text: String,
 }
@@ -87,7 +86,7 @@ impl Name {
 }
 
 /// A client with its column and its home replica.
-#[derive(Debug, Drop)]
+#[derive(Drop)]
 pub struct ClientLine {
     pub name: Name,
     pub column: u32,
@@ -95,7 +94,7 @@ pub struct ClientLine {
 }
 
 /// A list, seen as such.
-#[derive(Debug, Drop)]
+#[derive(Drop)]
 pub struct Lines<T: Drop> {
     list: Vec<T>,
 }
@@ -134,7 +133,7 @@ impl<T: Drop> Lines<T> {
 }
 
 /// A transaction of a client: the clock that it reads, and its items in order.
-#[derive(Debug, Drop)]
+#[derive(Drop)]
 pub struct TxnLine {
     pub client: u32,
     pub clock: u64,
@@ -142,7 +141,7 @@ pub struct TxnLine {
 }
 
 /// The lines of a round, each kind in order.
-#[derive(Debug, Drop)]
+#[derive(Drop)]
 pub struct Round {
     pub txns: Lines<TxnLine>,
     pub takeovers: Lines<TakeoverLine>,

@@ -1,8 +1,9 @@
 //! A script from its text.
 ghost use Rattle.std.specs.Prelude.{◌≡◌, IfOk, Ok};
-ghost use Rattle.mk_text.specs.Lines.{next_number};
+ghost use Rattle.mk_spelling.specs.Lines.{next_number};
 ghost use Rattle.mk_script.specs.Scripts.{ScriptParts};
 ghost use Rattle.mk_script.specs.Texts.{IsScript};
+ghost use Rattle.mk_script.specs.Whole.{IsWhole};
 ghost use Rattle.mk_script.specs.Parsed.{Answers, error_at, state_text, script_text};
 
 use crate::error::LineError;
@@ -57,6 +58,8 @@ fn next_line(number: u64) -> u64
 pub fn parse(alloc: Global, bytes: &[u8]) -> Result<Script, ScriptError>
     // What is read stands in the grammar.
     ensures found { IfOk result (λ s. IsScript bytes.now s) }
+    // It keeps the rules of the format.
+    ensures whole { IfOk result (λ s. IsWhole s) }
     // What stands in the grammar is read, unless memory runs out.
     ensures only { (s : ScriptParts) → IsScript bytes.now s → Answers result (Ok s) }
     // Which line is refused, and why.

@@ -12,11 +12,10 @@ ghost use Rattle.mk_script.specs.Whole.{IsWhole};
 
 use crate::lines::{ClientLine, Fate, FaultLine, Point, Round, StopLine, TakeoverLine, TxnLine};
 use crate::script::Script;
-use mk_global::GlobalLine;
-use mk_msg::MsgKind;
 use mk_names::Names;
 use mk_proc::{Item, ProcKind};
 use mk_txn::NoMemory;
+use mk_words::{GlobalLine, MsgKind};
 use std::alloc::{AllocError, Global};
 
 /// The text of the script: the version, the size, the clients, `retry` where it is not 0, the faults, the stops and the

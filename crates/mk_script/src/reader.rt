@@ -1,9 +1,9 @@
 //! What the lines of a script said.
 ghost use Rattle.std.specs.Prelude.{◌≡◌, ◌<◌, ◌≤◌, IsTrue, IsOk, IfOk, Ok, None, length};
-ghost use Rattle.mk_text.specs.Fields.{found, place};
-ghost use Rattle.mk_text.specs.Words.{is_name, words};
-ghost use Rattle.mk_text.specs.Words.{words_behind};
-ghost use Rattle.mk_text.specs.declared.fault.TextFault.TheVariants.{Unknown};
+ghost use Rattle.mk_spelling.specs.Fields.{found, place};
+ghost use Rattle.mk_spelling.specs.Words.{is_name, words};
+ghost use Rattle.mk_spelling.specs.Words.{words_behind};
+ghost use Rattle.mk_spelling.specs.declared.fault.TextFault.TheVariants.{Unknown};
 ghost use Rattle.mk_script.specs.Scripts as scripts;
 ghost use Rattle.mk_script.specs.Scripts.{nothing, names_of, client_number, script_of};
 ghost use Rattle.mk_script.specs.Whole.{IsWhole};
@@ -20,7 +20,6 @@ use crate::keys::number_items;
 use crate::lines::{ClientLine, FaultLine, Lines, Name, Round, StopLine, TakeoverLine, TxnLine};
 use crate::script::Script;
 use crate::words::{Keyword, Section};
-use mk_global::GlobalLine;
 use mk_names::Names;
 use mk_quorum::Size;
 use mk_text::{
@@ -28,6 +27,7 @@ use mk_text::{
     none_left, number, one, three, two, two_then,
 };
 use mk_txn::{NoMemory, TxnId};
+use mk_words::GlobalLine;
 use std::alloc::Global;
 use std::marker::Model;
 

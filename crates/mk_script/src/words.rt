@@ -1,7 +1,7 @@
 //! The words that begin lines, and how far a script has come.
 
 /// The first word of a line.
-#[derive(Clone, Copy, Debug, PartialEq, Eq)]
+#[derive(Clone, Copy)]
 pub enum Keyword {
     Meerkat,
     Size,
@@ -21,7 +21,7 @@ pub enum Keyword {
 }
 
 /// What was read, which says what may come next.
-#[derive(Clone, Copy, Debug, PartialEq, Eq)]
+#[derive(Clone, Copy)]
 pub enum Section {
     /// Nothing.
     Start,

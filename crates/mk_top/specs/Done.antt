@@ -1,9 +1,13 @@
 -- How a call of the program ends.
-use Rattle.std.specs.Prelude.{◌≡◌, ◌≤◌, ℕ, List, [], ◌∷◌, codes, length, Option, Some, None, Err, ⊤}
-use Rattle.mk_text.specs.declared.fault.TextFault.{TextFault}
+use Rattle.std.specs.Prelude.{◌≡◌, ◌≤◌, ℕ, List, [], ◌∷◌, codes, length, Option, Some, None, Err, false, ⊤}
+use Rattle.mk_spelling.specs.declared.fault.TextFault.{TextFault}
 use Rattle.mk_script.specs.Scripts.{ScriptParts}
 use Rattle.mk_script.specs.Texts.{IsScript}
 use Rattle.mk_script.specs.Parsed.{script_text}
+use Rattle.mk_io.specs.declared.whole.ReadError.{ReadError}
+use Rattle.mk_io.specs.declared.whole.ReadError.TheVariants.{Fault}
+use Rattle.mk_io.specs.declared.whole.ReadError.TheVariants as errors
+use Rattle.mk_top.specs.FirstScripts.{is_first}
 use Rattle.mk_top.specs.declared.top.Why.{Why}
 use Rattle.mk_top.specs.declared.top.Why.TheVariants.{Usage, Refused, SourceFault, TooLong, SinkFault, NoMemory, Unbuilt}
 
@@ -24,6 +28,32 @@ Says (Some bytes) script = (length bytes ≤ script_limit) × IsScript bytes scr
 abbrev pub SaysFault : Option (List ℕ) → ℕ → TextFault → Type 0
 SaysFault None line fault = ⊤
 SaysFault (Some bytes) line fault = (length bytes ≤ script_limit) × (script_text bytes ≡ Err (line, fault))
+
+-- why the bytes of a source were not had
+abbrev pub unread : ReadError → Why
+unread Fault = SourceFault
+unread errors.TooLong = TooLong
+unread errors.NoMemory = NoMemory
+
+-- it is one of these
+abbrev pub IsUnread : Why → Type 0
+IsUnread SourceFault = ⊤
+IsUnread TooLong = ⊤
+IsUnread NoMemory = ⊤
+IsUnread Usage = ⊥
+IsUnread (Refused line why) = ⊥
+IsUnread SinkFault = ⊥
+IsUnread Unbuilt = ⊥
+
+-- why these bytes are run as no first script
+abbrev pub IsUnrun : List ℕ → Why → Type 0
+IsUnrun bytes (Refused line why) = script_text bytes ≡ Err (line, why)
+IsUnrun bytes Unbuilt = (script : ScriptParts) × IsScript bytes script × (is_first script ≡ false)
+IsUnrun bytes NoMemory = ⊤
+IsUnrun bytes Usage = ⊥
+IsUnrun bytes SourceFault = ⊥
+IsUnrun bytes TooLong = ⊥
+IsUnrun bytes SinkFault = ⊥
 
 -- the status of each ending
 abbrev pub status_of : Option Why → ℕ

@@ -11,6 +11,3 @@ mod top;
 mod writing;
 
 pub use top::{Done, Why, run_top};
-
-#[cfg(test)]
-mod tests;

@@ -1,21 +1,24 @@
 //! The call that the program makes.
-ghost use Rattle.std.specs.Prelude.{◌≡◌, ◌≢◌, ◌++◌, ◌+◌, ◌↔◌, IsTrue, ℕ, true, false, Err, Some, None, map, IfOk};
+ghost use Rattle.std.specs.Prelude.{◌≡◌, ◌≢◌, ◌≤◌, ◌+◌, ◌↔◌, IsTrue, ℕ, true, false, Err, Some, None, length, map, IfOk, IfErr, OnOk};
 ghost use Rattle.std.specs.String.{string_bytes};
 ghost use Rattle.std.specs.Io.KnownBytes.{Appends};
-ghost use Rattle.mk_text.specs.declared.fault.TextFault.{TextFault as Fault};
+ghost use Rattle.mk_spelling.specs.declared.fault.TextFault.{TextFault as Fault};
 ghost use Rattle.mk_io.specs.Faults.{HasRisen};
-ghost use Rattle.mk_io.specs.Wholes.{AppendsPart, TakesCount, TakesAtMost};
+ghost use Rattle.mk_io.specs.Wholes.{AppendsPart, TakesAll, TakesCount, TakesAtMost};
 ghost use Rattle.mk_script.specs.Scripts.{ScriptParts};
+ghost use Rattle.mk_script.specs.Texts.{IsScript};
+ghost use Rattle.mk_script.specs.Whole.{IsWhole};
 ghost use Rattle.mk_top.specs.FirstScripts as first;
 ghost use Rattle.mk_top.specs.Reports.{report_of};
-ghost use Rattle.mk_top.specs.Done.{run_words, script_limit, Says, SaysFault, status_of};
+ghost use Rattle.mk_top.specs.Done.{run_words, script_limit, Says, SaysFault, IsUnread, IsUnrun, status_of, unread};
 ghost use Rattle.mk_top.specs.declared.top.Why.{Why as Reason};
+ghost use Rattle.mk_top.specs.declared.top.Why.TheVariants as reasons;
 
 use crate::first::is_first;
 use crate::reporting::report;
-use mk_io::{ReadError, Sink, Source, read_whole, write_whole};
+use mk_io::{Failed, ReadError, Sink, Source, read_whole, write_whole};
 use mk_proc::Procs;
-use mk_script::{ScriptError, TextFault, parse};
+use mk_script::{Script, ScriptError, TextFault, parse};
 use mk_txn::NoMemory;
 use std::alloc::Global;
 use thiserror::Error;
@@ -50,7 +53,7 @@ pub enum Why {
 }
 
 /// How a call ended: the status that the program ends with, and why it wrote no whole report, if it didn't.
-#[derive(Clone, Copy, Debug, PartialEq, Eq)]
+#[derive(Clone, Copy)]
 pub struct Done {
     pub status: u8,
     pub why: Option<Why>,
@@ -77,6 +80,58 @@ impl Done {
     }
 }
 
+impl From<ReadError> for Why {
+    ghost from_gives = { λ e why. why ≡ unread e };
+
+    fn from(error: ReadError) -> Why {
+        match error {
+            ReadError::Fault => Why::SourceFault,
+            ReadError::TooLong => Why::TooLong,
+            ReadError::NoMemory => Why::NoMemory,
+        }
+    }
+}
+
+impl From<NoMemory> for Why {
+    ghost from_gives = { λ _ why. why ≡ reasons.NoMemory };
+
+    fn from(_: NoMemory) -> Why {
+        Why::NoMemory
+    }
+}
+
+impl From<Failed> for Why {
+    ghost from_gives = { λ _ why. why ≡ reasons.SinkFault };
+
+    fn from(_: Failed) -> Why {
+        Why::SinkFault
+    }
+}
+
+/// The bytes that the source holds, which may be a script.
+fn bytes_from<S: Source>(alloc: Global, source: &mut S) -> Result<Vec<u8>, Why>
+    ensures whole { IfOk result (λ bytes. TakesAll (S.left source.old) (S.left source.new) bytes.items × (length bytes.items ≤ script_limit)) }
+    ensures err { IfErr result IsUnread }
+    ensures too_long { result ≡ Err Why.TooLong → TakesCount (S.left source.old) (S.left source.new) (script_limit + 1) }
+    ensures not_too_long { result ≢ Err Why.TooLong → TakesAtMost (S.left source.old) (S.left source.new) script_limit }
+    ensures fault { result ≡ Err Why.SourceFault → HasRisen (S.faults source.old) (S.faults source.new) }
+{
+    Ok(read_whole(alloc, source, SCRIPT_LIMIT)?)
+}
+
+/// The first script that the bytes stand for.
+fn first_script(alloc: Global, bytes: &[u8]) -> Result<Script, Why>
+    ensures ok { IfOk result (λ script. IsScript bytes.now script × (first.is_first script ≡ true) × IsWhole script) }
+    ensures err { IfErr result (IsUnrun bytes.now) }
+{
+    match parse(alloc, bytes) {
+        Ok(script) if is_first(&script) => Ok(script),
+        Ok(_) => Err(Why::Unbuilt),
+        Err(ScriptError::Refused { line, why }) => Err(Why::Refused { line, why }),
+        Err(ScriptError::NoMemory) => Err(Why::NoMemory),
+    }
+}
+
 /// The report of the script that the source holds.
 fn report_from<S: Source>(alloc: Global, procs: &Procs, source: &mut S) -> Result<String, Why>
     ensures ok { IfOk result (λ text. (script : ScriptParts) × Says (S.left source.old) script × (first.is_first script ≡ true) × (string_bytes text ≡ report_of script)) }
@@ -88,24 +143,17 @@ fn report_from<S: Source>(alloc: Global, procs: &Procs, source: &mut S) -> Resul
     ensures no_usage { result ≢ Err Why.Usage }
     ensures no_sink { result ≢ Err Why.SinkFault }
 {
-    let bytes = match read_whole(alloc, source, SCRIPT_LIMIT) {
-        Ok(bytes) => bytes,
-        Err(ReadError::Fault) => return Err(Why::SourceFault),
-        Err(ReadError::TooLong) => return Err(Why::TooLong),
-        Err(ReadError::NoMemory) => return Err(Why::NoMemory),
-    };
-    let script = match parse(alloc, bytes.as_slice()) {
-        Ok(script) => script,
-        Err(ScriptError::Refused { line, why }) => return Err(Why::Refused { line, why }),
-        Err(ScriptError::NoMemory) => return Err(Why::NoMemory),
-    };
-    if !is_first(&script) {
-        return Err(Why::Unbuilt);
-    }
-    match report(alloc, procs, &script) {
-        Ok(text) => Ok(text),
-        Err(NoMemory) => Err(Why::NoMemory),
-    }
+    let bytes = bytes_from(alloc, source)?;
+    let script = first_script(alloc, bytes.as_slice())?;
+    Ok(report(alloc, procs, &script)?)
+}
+
+/// Writes the whole report.
+fn write_report<K: Sink>(sink: &mut K, text: &str) -> Result<(), Why>
+    ensures ok { OnOk result (Appends (K.held sink.old) (K.held sink.new) text.now) }
+    ensures err { IfErr result (λ why. (why ≡ Why.SinkFault) × HasRisen (K.faults sink.old) (K.faults sink.new) × AppendsPart (K.held sink.old) (K.held sink.new) text.now) }
+{
+    Ok(write_whole(sink, text.as_bytes())?)
 }
 
 fn is_word(word: &String, text: &str) -> bool
@@ -166,11 +214,11 @@ pub fn run_top<S: Source, K: Sink>(
         Ok(text) => text,
         Err(why) => return Done::refused(why),
     };
-    match write_whole(sink, text.as_bytes()) {
+    match write_report(sink, text.as_str()) {
         Ok(()) => Done {
             status: 0,
             why: None,
         },
-        Err(_) => Done::refused(Why::SinkFault),
+        Err(why) => Done::refused(why),
     }
 }

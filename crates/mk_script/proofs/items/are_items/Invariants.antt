@@ -1,5 +1,5 @@
 use Rattle.std.proofs.Common.{◌≡◌, length}
-use Rattle.mk_text.specs.Words as text
+use Rattle.mk_spelling.specs.Words as text
 use Rattle.mk_script.specs.ItemShapes as spec
 use Rattle.mk_script.proofs.items.are_items.Given as goal
 

@@ -1,6 +1,6 @@
 use Rattle.std.proofs.Common.{◌≡◌, ◌∷◌, ◌++◌, ℕ, List, ap, ◌∙◌, sym, subst, map}
 use Rattle.std.proofs.lemmas.Result.{err_from_is_err_and}
-use Rattle.mk_text.specs.Words as text
+use Rattle.mk_spelling.specs.Words as text
 use Rattle.mk_script.specs.Grammar.{keys_after, key_of, item_of}
 use Rattle.mk_names.specs.NameLists.{with_name}
 use Rattle.mk_script.specs.ItemShapes.{shape}

@@ -1,6 +1,6 @@
 use Rattle.std.proofs.Common.{◌≡◌, ◌≤◌, ◌++◌, length, map}
 use Rattle.std.specs.Prelude.{IsOk}
-use Rattle.mk_text.specs.Words as text
+use Rattle.mk_spelling.specs.Words as text
 use Rattle.mk_script.specs.Grammar.{keys_after, item_of}
 use Rattle.mk_script.specs.ItemShapes.{mentions_of}
 use Rattle.mk_script.specs.Seen.{mentioned}

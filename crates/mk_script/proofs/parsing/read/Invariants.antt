@@ -1,6 +1,6 @@
 use Rattle.std.proofs.Common.{◌≡◌, length}
-use Rattle.mk_text.specs.Lines.{read_parts}
-use Rattle.mk_text.proofs.TextLaws.{parts}
+use Rattle.mk_spelling.specs.Lines.{read_parts}
+use Rattle.mk_spelling.proofs.TextLaws.{parts}
 use Rattle.mk_script.specs.Scripts.{nothing}
 use Rattle.mk_script.specs.Faults.{line_result, end_result}
 use Rattle.mk_script.proofs.parsing.read.Given as goal

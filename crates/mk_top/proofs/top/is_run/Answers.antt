@@ -13,5 +13,6 @@ head_is a b e = cc
 pub returns-in-len1 : goal.returns-in-len1
 returns-in-len1 c =
     let words = c.args.words.now in
-    let one : words ≡ c.word-item.result ∷ [] = single words _ (omega (arith, c.in-len1.len_at_least, c.in-len1.len_below)) ∙ ap (λ w. w ∷ []) (sym c.word-item.is) in
+    let one : words ≡ c.word-item.result ∷ [] =
+    single words _ (omega (arith, c.in-len1.len_at_least, c.in-len1.len_below)) ∙ ap (λ w. w ∷ []) (sym c.word-item.is) in
     rw one ((λ t. ap (λ (w : List ℕ). w ∷ []) (c.is_word.ensures.0 t)), (λ e. c.is_word.ensures.1 (head_is _ _ e)))

@@ -5,4 +5,5 @@ use Rattle.mk_top.specs.Spellings.{read_text}
 use Rattle.mk_top.proofs.writing.put_reads.Given as goal
 
 abbrev pub invariant-loop-item : goal.invariant-loop-item
-invariant-loop-item l = string_bytes l.out ++ flat_map (read_text l.names.names) (drop l.item-index l.reads) ≡ string_bytes l.fn.out ++ flat_map (read_text l.names.names) l.reads
+invariant-loop-item l =
+    string_bytes l.out ++ flat_map (read_text l.names.names) (drop l.item-index l.reads) ≡ string_bytes l.fn.out ++ flat_map (read_text l.names.names) l.reads

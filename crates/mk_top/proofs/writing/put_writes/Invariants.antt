@@ -5,4 +5,5 @@ use Rattle.mk_top.specs.Spellings.{write_text}
 use Rattle.mk_top.proofs.writing.put_writes.Given as goal
 
 abbrev pub invariant-loop-item : goal.invariant-loop-item
-invariant-loop-item l = string_bytes l.out ++ flat_map (write_text l.names.names) (drop l.item-index l.writes) ≡ string_bytes l.fn.out ++ flat_map (write_text l.names.names) l.writes
+invariant-loop-item l =
+    string_bytes l.out ++ flat_map (write_text l.names.names) (drop l.item-index l.writes) ≡ string_bytes l.fn.out ++ flat_map (write_text l.names.names) l.writes

@@ -17,5 +17,6 @@ loop-item-preserved c =
     let before : List (List ℕ × Value) = seen_entries c.loop-item.store.entries in
     let name : c.name_at-name.result.now ≡ name_at names item.key = c.name_at-name.ensures in
     let seen : seen_entries c.insert.new.self.entries ≡ after_store names before item =
-    ap seen_entries c.in_ok-insert.ensures.entries ∙ seen-insert_entry c.loop-item.store.entries c.name_at-name.result item.value ∙ ap (λ (n : List ℕ). insert_entry (slice_cmp nat_cmp) before n item.value) name in
+    ap seen_entries c.in_ok-insert.ensures.entries ∙ seen-insert_entry c.loop-item.store.entries c.name_at-name.result item.value
+    ∙ ap (λ (n : List ℕ). insert_entry (slice_cmp nat_cmp) before n item.value) name in
     fold-drop (after_store names) before (seen_entries c.insert.new.self.entries) _ c.args.writes.now c.loop-item.item-index (record { key = 0; value = Number 0 }) c.loop-item-test.true seen c.loop-item.invariant
