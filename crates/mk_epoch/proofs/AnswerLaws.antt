@@ -7,23 +7,23 @@ use Rattle.mk_lists.specs.Changed.{change}
 use Rattle.mk_quorum.specs.Sizes.{members, majority_of}
 use Rattle.mk_quorum.specs.Counts.{count_below}
 use Rattle.mk_quorum.specs.ReplicaSets.{has_replica}
-use Rattle.mk_merge.specs.declared.Phase.{Phase}
-use Rattle.mk_merge.specs.declared.Phase.TheVariants.{Paused, Adopted, Lacking as HasLost}
+use Rattle.mk_words.specs.declared.Phase.{Phase}
+use Rattle.mk_words.specs.declared.Phase.TheVariants.{Paused, Adopted, Lacking as HasLost}
 use Rattle.mk_merge.specs.declared.Promise.{Promise}
-use Rattle.mk_merge.specs.Bases.{BaseState, empty_base}
-use Rattle.mk_merge.specs.Promises.{PromiseState, ArePromises, can_merge, leader_of}
+use Rattle.mk_words.specs.Bases.{BaseState, empty_base}
+use Rattle.mk_words.specs.Promises.{PromiseState, ArePromises, can_merge, leader_of}
 use Rattle.mk_merge.specs.Keepings.{Stand}
-use Rattle.mk_merge.specs.Merging.{merged}
-use Rattle.mk_global.specs.declared.GlobalLine.{GlobalLine}
-use Rattle.mk_global.specs.declared.GlobalLine.TheVariants.{Wipe, Ask, Promise as PromiseLine, Merge, Adopt, Enter}
-use Rattle.mk_global.specs.declared.GlobalAnswer.{GlobalAnswer}
-use Rattle.mk_global.specs.declared.GlobalAnswer.TheVariants.{Ok as Done, Entered, Unasked as NobodyAsked, Unmade as NoneMade, Lacking as LacksState, Old as TooOld, WordFault as WordFailed, Short as TooFew}
+use Rattle.mk_words.specs.Merging.{merged}
+use Rattle.mk_words.specs.declared.GlobalLine.{GlobalLine}
+use Rattle.mk_words.specs.declared.GlobalLine.TheVariants.{Wipe, Ask, Promise as PromiseLine, Merge, Adopt, Enter}
+use Rattle.mk_words.specs.declared.GlobalAnswer.{GlobalAnswer}
+use Rattle.mk_words.specs.declared.GlobalAnswer.TheVariants.{Ok as Done, Entered, Unasked as NobodyAsked, Unmade as NoneMade, Lacking as LacksState, Old as TooOld, WordFault as WordFailed, Short as TooFew}
 use Rattle.mk_epoch.specs.declared.EpochError.{EpochError}
 use Rattle.mk_epoch.specs.declared.EpochError.TheVariants.{Unasked, Unmade, Lacking, Old, WordFault, Short, NoMemory}
 use Rattle.mk_epoch.specs.declared.replica.Replica.{Replica}
-use Rattle.mk_epoch.specs.EpochState.{EpochState, ReplicaState, promises_for, made_for, adopters, ever_adopted}
-use Rattle.mk_epoch.specs.GlobalAnswers.{global_answer, is_accepted, writes_word, lacks, promise_answer, adopt_answer, merge_answer, merge_refusal, counts_of}
-use Rattle.mk_epoch.specs.GlobalSteps.{HandedIn, GlobalStep, global_after, nothing_handed, with_base}
+use Rattle.mk_model.specs.EpochState.{EpochState, ReplicaState, promises_for, made_for, adopters, ever_adopted}
+use Rattle.mk_model.specs.GlobalAnswers.{global_answer, is_accepted, writes_word, lacks, promise_answer, adopt_answer, merge_answer, merge_refusal, counts_of}
+use Rattle.mk_model.specs.GlobalSteps.{HandedIn, GlobalStep, global_after, nothing_handed, with_base}
 use Rattle.mk_epoch.specs.Changes.{change_for, with_asked, promised_to, made_as, adopted_by}
 use Rattle.mk_epoch.specs.Standing.{ReplicasView, MadeStands, StandsFor, IsHandedIn, word_at, waits_for, now_serving, refusal_of, IsEarly, IsFault, Does, Merges, told, done}
 use Rattle.mk_epoch.proofs.RowLaws.{promised-below}
@@ -221,15 +221,6 @@ module _ {B : Type 0} (stands : B → BaseState → Type 0) where
         (after : EpochState) × GlobalStep state handed line answer after × StandsFor stands new after
     accepted handed line answer new e yes_done k = (global_after state handed line, record { answered = inl e; after = sym (ap (λ b. if b then global_after state handed line else state) yes_done) }, k)
 
-pub not_accepted : (error : EpochError) (answer : GlobalAnswer) → refusal_of error ≡ Some answer → is_accepted answer ≡ false
-not_accepted Unasked answer e = subst (λ a. is_accepted a ≡ false) (some_same NobodyAsked answer e) refl
-not_accepted Unmade answer e = subst (λ a. is_accepted a ≡ false) (some_same NoneMade answer e) refl
-not_accepted Lacking answer e = subst (λ a. is_accepted a ≡ false) (some_same LacksState answer e) refl
-not_accepted (Old word) answer e = subst (λ a. is_accepted a ≡ false) (some_same (TooOld word) answer e) refl
-not_accepted WordFault answer e = subst (λ a. is_accepted a ≡ false) (some_same WordFailed answer e) refl
-not_accepted (Short count) answer e = subst (λ a. is_accepted a ≡ false) (some_same (TooFew count) answer e) refl
-not_accepted NoMemory answer e = absurd (cc e)
-
 -- a call that is refused before anything is taken
 pub early : {B : Type 0} (stands : B → BaseState → Type 0) (old : ReplicasView B) (handed : HandedIn) (line : GlobalLine) (error : EpochError) → IsEarly error →
     ((state : EpochState) → StandsFor stands old state → refusal_of error ≡ Some (global_answer state line)) → Does stands old old handed line (refusal_of error)
@@ -241,34 +232,12 @@ early stands old handed line Lacking is k = λ state h. refused stands old state
 early stands old handed line (Old word) is k = λ state h. refused stands old state h handed line (TooOld word) (some_same (TooOld word) _ (k state h)) refl
 early stands old handed line (Short count) is k = λ state h. refused stands old state h handed line (TooFew count) (some_same (TooFew count) _ (k state h)) refl
 
-pub early_merge : {B : Type 0} (stands : B → BaseState → Type 0) (old : ReplicasView B) (epoch : ℕ) (error : EpochError) → IsEarly error →
-    ((state : EpochState) → StandsFor stands old state → refusal_of error ≡ Some (global_answer state (Merge epoch))) → Merges stands old old epoch (refusal_of error)
-early_merge stands old epoch NoMemory is k = absurd is
-early_merge stands old epoch WordFault is k = absurd is
-early_merge stands old epoch Unasked is k = λ state h fit. refused stands old state h nothing_handed (Merge epoch) NobodyAsked (some_same NobodyAsked _ (k state h)) refl
-early_merge stands old epoch Unmade is k = λ state h fit. refused stands old state h nothing_handed (Merge epoch) NoneMade (some_same NoneMade _ (k state h)) refl
-early_merge stands old epoch Lacking is k = λ state h fit. refused stands old state h nothing_handed (Merge epoch) LacksState (some_same LacksState _ (k state h)) refl
-early_merge stands old epoch (Old word) is k = λ state h fit. refused stands old state h nothing_handed (Merge epoch) (TooOld word) (some_same (TooOld word) _ (k state h)) refl
-early_merge stands old epoch (Short count) is k = λ state h fit. refused stands old state h nothing_handed (Merge epoch) (TooFew count) (some_same (TooFew count) _ (k state h)) refl
-
 -- a base that was made is there
 pub is_made : {B : Type 0} (stands : B → BaseState → Type 0) (o : Option B) (made : B) (p : Option BaseState) → o ≡ Some made → MadeStands stands o p → (base : BaseState) × (p ≡ Some base) × stands made base
 is_made {B = B} stands o made None e m = absurd (subst (λ (x : Option B). MadeStands stands x None) e m)
 is_made {B = B} stands o made (Some base) e m = (base, refl, subst (λ (x : Option B). MadeStands stands x (Some base)) e m)
 
 module _ {B : Type 0} (stands : B → BaseState → Type 0) (old : ReplicasView B) where
-  -- a base that was made answers again
-  pub merged_before : (epoch : ℕ) (made : B) (answer : GlobalAnswer) → (change_for epoch old.changes).made ≡ Some made → ((base : BaseState) → stands made base → answer ≡ counts_of base) →
-      Merges stands old old epoch (Some answer)
-  merged_before epoch made answer was counts state h fit =
-      let m = is_made stands (change_for epoch old.changes).made made (made_for epoch state) was (h.changes epoch).made in
-      let same = counts m.0 m.2 ∙ sym (ap (merge_answer state epoch) m.1) in
-      (state, record { answered = inl same; after = by m.0 m.1 (is_accepted answer) }, h)
-    where
-      by : (base : BaseState) → made_for epoch state ≡ Some base → (b : Bool) → state ≡ (if b then with_base epoch (made_for epoch state) state else state)
-      by base e true = sym (ap (λ o. with_base epoch o state) e)
-      by base e false = refl
-
   -- a merge that makes a base
   pub merges : (epoch : ℕ) (made : B) (answer : GlobalAnswer) (new : ReplicasView B) → epoch < length old.changes → (change_for epoch old.changes).made ≡ None →
       ((state : EpochState) → StandsFor stands old state → ArePromises (promises_for epoch state) → stands made (merged state.faults epoch (promises_for epoch state))) →
@@ -343,11 +312,6 @@ module _ {B : Type 0} (stands : B → BaseState → Type 0) (old : ReplicasView 
       accepted stands old state h nothing_handed (Enter epoch) (Entered count) new
       (sym (ap (λ b. if b then TooFew (adopters epoch state) else Entered (adopters epoch state)) (lt_fails (adopters epoch state) (majority_of state.faults) (omega (arith, enough, counts state h, h.faults))) ∙ ap Entered (sym (counts state h)))) refl
       (subst (λ (v : ReplicasView B). StandsFor stands v (global_after state nothing_handed (Enter epoch))) (sym is) (entered_stands stands old state h epoch))
-
-  pub enters_short : (epoch count : ℕ) → ((state : EpochState) → StandsFor stands old state → count ≡ adopters epoch state) → count < majority_of old.faults → Does stands old old nothing_handed (Enter epoch) (Some (TooFew count))
-  enters_short epoch count counts short state h =
-      refused stands old state h nothing_handed (Enter epoch) (TooFew count)
-      (sym (ap (λ b. if b then TooFew (adopters epoch state) else Entered (adopters epoch state)) (lt_holds (adopters epoch state) (majority_of state.faults) (omega (arith, short, counts state h, h.faults))) ∙ ap TooFew (sym (counts state h)))) refl
 
 module _ {B : Type 0} (stands : B → BaseState → Type 0) (old : ReplicasView B) (f epoch : ℕ) (size : f ≡ old.faults) (ps : List (Promise B)) (given : ps ≡ (change_for epoch old.changes).promises) where
   pub can_tell : (state : EpochState) → StandsFor stands old state → can_merge state.faults epoch (promises_for epoch state) ≡ (nat_le (majority_of f) (length ps) && list_any (λ p. p.replica == leader_of f epoch) ps)

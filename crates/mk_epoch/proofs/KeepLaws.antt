@@ -3,7 +3,7 @@ use Rattle.std.proofs.Common.{◌≡◌, ◌≤◌, ◌<◌, ℕ, refl, arith, s
 use Rattle.std.specs.Prelude.{slice_get, slice_set, slice_index_or}
 use Rattle.std.proofs.lemmas.Option.{slice_get_read}
 use Rattle.mk_quorum.specs.Sizes.{members}
-use Rattle.mk_merge.specs.declared.Phase.TheVariants.{Paused, Adopted, Lacking}
+use Rattle.mk_words.specs.declared.Phase.TheVariants.{Paused, Adopted, Lacking}
 use Rattle.mk_merge.specs.declared.Promise.{Promise}
 use Rattle.mk_epoch.specs.declared.replica.Replica.{Replica}
 use Rattle.mk_epoch.specs.Changes.{ChangeView, change_for, asked_for, with_asked, grown_to, promised_to, adopted_by}

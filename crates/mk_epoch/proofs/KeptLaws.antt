@@ -4,7 +4,7 @@ use Rattle.std.proofs.lemmas.Bool.Decides.{nat_tests}
 use Rattle.std.specs.Prelude.{slice_get, slice_set, filter, nat_le, ◌+◌, ◌-◌}
 use Rattle.mk_lists.specs.Changed.{change}
 use Rattle.mk_quorum.specs.Sizes.{members}
-use Rattle.mk_merge.specs.declared.Phase.TheVariants.{Paused}
+use Rattle.mk_words.specs.declared.Phase.TheVariants.{Paused}
 use Rattle.mk_merge.specs.declared.Promise.{Promise}
 use Rattle.mk_epoch.specs.declared.replica.Replica.{Replica}
 use Rattle.mk_epoch.specs.Changes.{ChangeView, change_for, asked_for, with_asked, grown_to, promised_to, made_as, adopted_by}

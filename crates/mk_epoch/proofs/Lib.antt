@@ -1,4 +1,3 @@
-mod EpochRows
 mod RowLaws
 mod StandingLaws
 mod AnswerLaws

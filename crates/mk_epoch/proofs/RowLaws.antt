@@ -43,16 +43,6 @@ module _ {X : Type 0} where
   get-below (y ∷ xs) zero x e = omega arith
   get-below (y ∷ xs) (suc i) x e = omega (arith, get-below xs i x e)
 
-  pub get-there : (xs : List X) (i : ℕ) → i < length xs → (x : X) × (slice_get xs i ≡ Some x)
-  get-there [] i h = absurd (omega arith)
-  get-there (x ∷ xs) zero h = (x, refl)
-  get-there (x ∷ xs) (suc i) h = get-there xs i (omega arith)
-
-  get-more : (xs ys : List X) (i : ℕ) → i < length xs → slice_get (xs ++ ys) i ≡ slice_get xs i
-  get-more [] ys i h = absurd (omega arith)
-  get-more (x ∷ xs) ys zero h = refl
-  get-more (x ∷ xs) ys (suc i) h = get-more xs ys i (omega arith)
-
   get-past : (xs : List X) (i : ℕ) → length xs ≤ i → slice_get xs i ≡ None
   get-past [] i h = refl
   get-past (x ∷ xs) zero h = absurd (omega arith)

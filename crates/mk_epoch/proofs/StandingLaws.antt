@@ -7,17 +7,17 @@ use Rattle.mk_lists.specs.Among.{Each}
 use Rattle.mk_lists.specs.Changed.{change}
 use Rattle.mk_quorum.specs.Sizes.{members}
 use Rattle.mk_quorum.specs.ReplicaSets.{no_replicas, has_replica, with_replica}
-use Rattle.mk_merge.specs.declared.Phase.{Phase}
-use Rattle.mk_merge.specs.declared.Phase.TheVariants.{Paused, Adopted, Lacking}
+use Rattle.mk_words.specs.declared.Phase.{Phase}
+use Rattle.mk_words.specs.declared.Phase.TheVariants.{Paused, Adopted, Lacking}
 use Rattle.mk_merge.specs.declared.Promise.{Promise}
-use Rattle.mk_merge.specs.Bases.{BaseState, empty_base}
-use Rattle.mk_merge.specs.Promises.{PromiseState}
+use Rattle.mk_words.specs.Bases.{BaseState, empty_base}
+use Rattle.mk_words.specs.Promises.{PromiseState}
 use Rattle.mk_merge.specs.Keepings.{Stand, PromiseStands}
-use Rattle.mk_merge.specs.Merging.{merged}
-use Rattle.mk_global.specs.declared.GlobalLine.TheVariants.{Wipe, Promise as PromiseLine, Merge, Adopt, Enter}
+use Rattle.mk_words.specs.Merging.{merged}
+use Rattle.mk_words.specs.declared.GlobalLine.TheVariants.{Wipe, Promise as PromiseLine, Merge, Adopt, Enter}
 use Rattle.mk_epoch.specs.declared.replica.Replica.{Replica}
-use Rattle.mk_epoch.specs.EpochState.{EpochState, ReplicaState, GivenPromise, MadeBase, Adoption, first_epochs, first_replica, promises_for, made_for, ever_adopted}
-use Rattle.mk_epoch.specs.GlobalSteps.{change_replica, with_promise, with_base, with_adoption, HandedIn, nothing_handed, global_after, wiped, promised, promise_of, adopting, base_or_empty, awaits_enter, serving, is_adopted}
+use Rattle.mk_model.specs.EpochState.{EpochState, ReplicaState, GivenPromise, MadeBase, Adoption, first_epochs, first_replica, promises_for, made_for, ever_adopted}
+use Rattle.mk_model.specs.GlobalSteps.{change_replica, with_promise, with_base, with_adoption, HandedIn, nothing_handed, global_after, wiped, promised, promise_of, adopting, base_or_empty, awaits_enter, serving, is_adopted}
 use Rattle.mk_epoch.specs.Changes.{ChangeView, change_for, asked_for, with_asked, grown_to, promised_to, made_as, adopted_by}
 use Rattle.mk_epoch.specs.Standing.{ReplicasView, ReplicaStands, AllStand, MadeStands, ChangeStands, StandsFor, IsHandedIn, waits_for, now_serving}
 use Rattle.mk_epoch.proofs.RowLaws.{same_or_not, eqb-same, eqb-apart, any_with, filter_with, filter_without, find_last, find_other, change_for-set_same, change_for-set_other, change_for-more, grown-length}

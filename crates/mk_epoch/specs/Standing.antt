@@ -3,20 +3,20 @@ use Rattle.std.specs.Prelude.{◌≡◌, ◌⊎◌, ℕ, ◌≤◌, nat_le, Bool
 use Rattle.mk_quorum.specs.Sizes.{members}
 use Rattle.mk_quorum.specs.ReplicaSets.{has_replica}
 use Rattle.mk_merge.specs.declared.Promise.{Promise}
-use Rattle.mk_merge.specs.declared.Phase.TheVariants.{Serving}
-use Rattle.mk_merge.specs.Bases.{BaseState}
-use Rattle.mk_merge.specs.Promises.{ArePromises}
+use Rattle.mk_words.specs.declared.Phase.TheVariants.{Serving}
+use Rattle.mk_words.specs.Bases.{BaseState}
+use Rattle.mk_words.specs.Promises.{ArePromises}
 use Rattle.mk_merge.specs.Keepings.{Stand}
-use Rattle.mk_global.specs.declared.GlobalLine.{GlobalLine}
-use Rattle.mk_global.specs.declared.GlobalLine.TheVariants.{Merge}
-use Rattle.mk_global.specs.declared.GlobalAnswer.{GlobalAnswer}
-use Rattle.mk_global.specs.declared.GlobalAnswer.TheVariants.{Ok as Done, Counts, Unasked as NobodyAsked, Unmade as NoneMade, Lacking as LacksState, Old as TooOld, WordFault as WordFailed, Short as TooFew}
+use Rattle.mk_words.specs.declared.GlobalLine.{GlobalLine}
+use Rattle.mk_words.specs.declared.GlobalLine.TheVariants.{Merge}
+use Rattle.mk_words.specs.declared.GlobalAnswer.{GlobalAnswer}
+use Rattle.mk_words.specs.declared.GlobalAnswer.TheVariants.{Ok as Done, Counts, Unasked as NobodyAsked, Unmade as NoneMade, Lacking as LacksState, Old as TooOld, WordFault as WordFailed, Short as TooFew}
 use Rattle.mk_epoch.specs.declared.EpochError.{EpochError}
 use Rattle.mk_epoch.specs.declared.EpochError.TheVariants.{Unasked, Unmade, Lacking, Old, WordFault, Short, NoMemory}
 use Rattle.mk_epoch.specs.declared.replica.Replica.{Replica}
-use Rattle.mk_epoch.specs.EpochState.{EpochState, ReplicaState, was_asked, promises_for, made_for, ever_adopted}
-use Rattle.mk_epoch.specs.GlobalAnswers.{global_answer, is_accepted}
-use Rattle.mk_epoch.specs.GlobalSteps.{HandedIn, nothing_handed, GlobalStep, is_adopted}
+use Rattle.mk_model.specs.EpochState.{EpochState, ReplicaState, was_asked, promises_for, made_for, ever_adopted}
+use Rattle.mk_model.specs.GlobalAnswers.{global_answer, is_accepted}
+use Rattle.mk_model.specs.GlobalSteps.{HandedIn, nothing_handed, GlobalStep, is_adopted}
 use Rattle.mk_epoch.specs.Changes.{ChangeView, change_for}
 
 -- what is kept: the size, the replicas by number, and the changes by epoch

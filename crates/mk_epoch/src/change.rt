@@ -16,7 +16,7 @@ use std::alloc::Global;
 use std::marker::Model;
 
 /// Whether a change was asked for, its promises in order, its base where it was made, and who ever adopted it.
-#[derive(Drop, Debug)]
+#[derive(Drop)]
 pub struct Change<B> {
     asked: bool,
     promises: Vec<Promise<B>>,
@@ -72,7 +72,7 @@ impl<B: Drop> Change<B> {
     ) -> Result<(), EpochError>
         ensures ok { OnOk result (self.new ≡ promised_to promise self.old) }
         ensures err { OnErr result (self.new ≡ self.old) }
-        ensures word { IsWritten W.kept W.faults epoch word.old word.new result }
+        ensures word { IsWritten W.kept W.sets W.faults epoch word.old word.new result }
         ensures told { IfErr result IsFault }
     {
         if self.promises.reserve(1).is_err() {
@@ -118,7 +118,7 @@ impl<B: Drop> Change<B> {
 
 // Writes the epoch to the word.
 pub fn write_word<W: EpochWord>(word: &mut W, epoch: u32) -> Result<(), EpochError>
-    ensures word { IsWritten W.kept W.faults epoch word.old word.new result }
+    ensures word { IsWritten W.kept W.sets W.faults epoch word.old word.new result }
     ensures told { IfErr result (λ error. error ≡ errors.WordFault) }
 {
     if word.set(epoch).is_err() {

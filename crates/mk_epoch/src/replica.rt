@@ -1,13 +1,13 @@
 //! What is kept of one replica.
 ghost use Rattle.std.specs.Prelude.{◌≡◌, ℕ, ◌||◌, nat_le, nat_lt, if◌then◌else◌};
-ghost use Rattle.mk_merge.specs.declared.Phase.TheVariants.{Paused, Lacking};
-ghost use Rattle.mk_epoch.specs.GlobalAnswers.{lacks as lacks_state};
+ghost use Rattle.mk_words.specs.declared.Phase.TheVariants.{Paused, Lacking};
+ghost use Rattle.mk_model.specs.GlobalAnswers.{lacks as lacks_state};
 ghost use Rattle.mk_epoch.specs.Standing.{waits_for, now_serving};
 
-use mk_merge::Phase;
+use mk_words::Phase;
 
 /// A replica: the number in its word, its phase, the epoch that it has adopted, and that epoch's base.
-#[derive(Drop, Debug)]
+#[derive(Drop)]
 pub struct Replica<B> {
     pub word: u32,
     pub phase: Phase,

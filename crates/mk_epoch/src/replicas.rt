@@ -5,18 +5,18 @@ ghost use Rattle.std.specs.Prelude.{◌==◌};
 ghost use Rattle.std.specs.List.{list_any};
 ghost use Rattle.mk_quorum.specs.Sizes.{members, majority_of};
 ghost use Rattle.mk_merge.specs.declared.Promise.{Promise as KeptPromise};
-ghost use Rattle.mk_merge.specs.declared.Phase.TheVariants.{Adopted, Lacking, Paused};
-ghost use Rattle.mk_merge.specs.Bases.{BaseState};
-ghost use Rattle.mk_merge.specs.Promises.{PromiseState, ArePromises, can_merge, leader_of};
-ghost use Rattle.mk_merge.specs.Merging.{merged as merged_base};
+ghost use Rattle.mk_words.specs.declared.Phase.TheVariants.{Adopted, Lacking, Paused};
+ghost use Rattle.mk_words.specs.Bases.{BaseState};
+ghost use Rattle.mk_words.specs.Promises.{PromiseState, ArePromises, can_merge, leader_of};
+ghost use Rattle.mk_words.specs.Merging.{merged as merged_base};
 ghost use Rattle.mk_merge.specs.Keepings.{Stand};
-ghost use Rattle.mk_record.specs.declared.Entry.{Entry as KeptEntry};
-ghost use Rattle.mk_global.specs.declared.GlobalLine.TheVariants.{Wipe as WipeLine, Ask as AskLine, Promise as PromiseLine, Adopt as AdoptLine, Enter as EnterLine, Merge as MergeLine};
-ghost use Rattle.mk_global.specs.declared.GlobalAnswer.TheVariants.{Ok as Done, Entered};
+ghost use Rattle.mk_words.specs.declared.Entry.{Entry as KeptEntry};
+ghost use Rattle.mk_words.specs.declared.GlobalLine.TheVariants.{Wipe as WipeLine, Ask as AskLine, Promise as PromiseLine, Adopt as AdoptLine, Enter as EnterLine, Merge as MergeLine};
+ghost use Rattle.mk_words.specs.declared.GlobalAnswer.TheVariants.{Ok as Done, Entered};
 ghost use Rattle.mk_epoch.specs.declared.replica.Replica.{Replica as KeptReplica};
-ghost use Rattle.mk_epoch.specs.EpochState.{EpochState, ReplicaState, first_epochs, first_replica, promises_for, made_for, adopters as adopters_of};
-ghost use Rattle.mk_epoch.specs.GlobalAnswers.{global_answer, counts_of};
-ghost use Rattle.mk_epoch.specs.GlobalSteps.{HandedIn, nothing_handed};
+ghost use Rattle.mk_model.specs.EpochState.{EpochState, ReplicaState, first_epochs, first_replica, promises_for, made_for, adopters as adopters_of};
+ghost use Rattle.mk_model.specs.GlobalAnswers.{global_answer, counts_of};
+ghost use Rattle.mk_model.specs.GlobalSteps.{HandedIn, nothing_handed};
 ghost use Rattle.mk_epoch.specs.Changes.{ChangeView, no_change, change_for, with_asked, promised_to, made_as, adopted_by};
 ghost use Rattle.mk_epoch.specs.Words.{IsWritten};
 ghost use Rattle.mk_epoch.specs.Standing.{ReplicasView, ReplicaStands, StandsFor, MadeStands, word_at, waits_for, now_serving, IsRefusal, IsEarly, IsFault, IsHandedIn, told, done, counts, Does, Merges};
@@ -25,17 +25,18 @@ use crate::EpochError;
 use crate::change::{Change, write_word};
 use crate::replica::Replica;
 use mk_io::EpochWord;
-use mk_merge::{Entries, Keeping, MergeError, Phase, Promise};
+use mk_merge::{Entries, Keeping, MergeError, Promise};
 use mk_quorum::Size;
-use mk_record::{Entry, copies};
+use mk_record::copies;
 use mk_txn::{Marks, NoMemory};
+use mk_words::{Entry, Phase};
 use std::alloc::Global;
 use std::marker::Model;
 
 /// The replicas' words, phases, epochs and bases, and what was asked, promised, made and adopted.
 ///
 /// Epochs are 1 to 1,000, and replicas 0 to 2f.
-#[derive(Drop, Debug)]
+#[derive(Drop)]
 pub struct Replicas<B> {
     size: Size,
     replicas: Vec<Replica<B>>,
@@ -81,8 +82,7 @@ impl<B: Keeping> Replicas<B> {
 
     pub fn phase(&self, replica: u32) -> Phase
         requires { replica < members self.now.faults }
-        ensures value { option_map (λ (r : KeptReplica B). r.phase) (slice_get self.now.replicas replica) ≡ Some result }
-        ensures stands { (state : EpochState) → StandsFor B.stands self.now state → option_map (λ (r : ReplicaState). r.phase) (slice_get state.replicas replica) ≡ Some result }
+        ensures { (state : EpochState) → StandsFor B.stands self.now state → option_map (λ (r : ReplicaState). r.phase) (slice_get state.replicas replica) ≡ Some result }
     {
         self.replica(replica).phase
     }
@@ -90,8 +90,7 @@ impl<B: Keeping> Replicas<B> {
     /// The epoch that the replica has adopted, 0 for one that lacks its state.
     pub fn adopted(&self, replica: u32) -> u32
         requires { replica < members self.now.faults }
-        ensures value { option_map (λ (r : KeptReplica B). r.adopted) (slice_get self.now.replicas replica) ≡ Some result }
-        ensures stands { (state : EpochState) → StandsFor B.stands self.now state → option_map (λ (r : ReplicaState). r.adopted) (slice_get state.replicas replica) ≡ Some result }
+        ensures { (state : EpochState) → StandsFor B.stands self.now state → option_map (λ (r : ReplicaState). r.adopted) (slice_get state.replicas replica) ≡ Some result }
     {
         self.replica(replica).adopted
     }
@@ -99,16 +98,14 @@ impl<B: Keeping> Replicas<B> {
     /// The base of that epoch, the empty one for a replica that lacks its state.
     pub fn base(&self, replica: u32) -> &B
         requires { replica < members self.now.faults }
-        ensures value { option_map (λ (r : KeptReplica B). r.base) (slice_get self.now.replicas replica) ≡ Some result.now }
-        ensures stands { (state : EpochState) → StandsFor B.stands self.now state → (r : ReplicaState) × (slice_get state.replicas replica ≡ Some r) × B.stands result.now r.base }
+        ensures { (state : EpochState) → StandsFor B.stands self.now state → (r : ReplicaState) × (slice_get state.replicas replica ≡ Some r) × B.stands result.now r.base }
     {
         &self.replica(replica).base
     }
 
     /// The epoch's base, None exactly where it was not made.
     pub fn made(&self, epoch: u32) -> Option<&B>
-        ensures value { option_copied result ≡ (change_for epoch self.now.changes).made }
-        ensures stands { (state : EpochState) → StandsFor B.stands self.now state → MadeStands B.stands (option_copied result) (made_for epoch state) }
+        ensures { (state : EpochState) → StandsFor B.stands self.now state → MadeStands B.stands (option_copied result) (made_for epoch state) }
     {
         self.change(epoch)?.made()
     }
@@ -119,20 +116,8 @@ impl<B: Keeping> Replicas<B> {
         requires { replica < members self.now.faults }
         ensures answer { (state : EpochState) → StandsFor B.stands self.now state → told done result ≡ Some (global_answer state (PromiseLine epoch replica)) }
         ensures early { IfErr result IsEarly }
-        ensures row { OnOk result (epoch < length self.now.changes) }
-        ensures above { OnOk result (word_at self.now.replicas replica < epoch) }
     {
-        if !self.is_asked(epoch) {
-            return Err(EpochError::Unasked);
-        }
-        let replica = self.replica(replica);
-        if replica.lacks() {
-            return Err(EpochError::Lacking);
-        }
-        if epoch <= replica.word {
-            return Err(EpochError::Old(replica.word));
-        }
-        Ok(())
+        self.check_promise(epoch, replica)
     }
 
     /// The first reason for which the replica would not adopt the epoch: [`EpochError::Unmade`], [`EpochError::Old`].
@@ -140,18 +125,8 @@ impl<B: Keeping> Replicas<B> {
         requires { replica < members self.now.faults }
         ensures answer { (state : EpochState) → StandsFor B.stands self.now state → told done result ≡ Some (global_answer state (AdoptLine epoch replica)) }
         ensures early { IfErr result IsEarly }
-        ensures row { OnOk result (epoch < length self.now.changes) }
-        ensures above { OnOk result (word_at self.now.replicas replica ≤ epoch) }
-        ensures made { OnOk result (IsSome (change_for epoch self.now.changes).made) }
     {
-        if self.made(epoch).is_none() {
-            return Err(EpochError::Unmade);
-        }
-        let replica = self.replica(replica);
-        if replica.is_past(epoch) {
-            return Err(EpochError::Old(replica.word));
-        }
-        Ok(())
+        self.check_adopt(epoch, replica)
     }
 
     /// Asks for a change to this epoch.
@@ -188,9 +163,9 @@ impl<B: Keeping> Replicas<B> {
         ensures does { Does B.stands self.old self.new (record { entries = entries.now; marks = marks.now }) (PromiseLine epoch replica) (told done result) }
         ensures size { self.new.faults ≡ self.old.faults }
         ensures err { OnErr result (self.new ≡ self.old) }
-        ensures word { IsWritten W.kept W.faults epoch word.old word.new result }
+        ensures word { IsWritten W.kept W.sets W.faults epoch word.old word.new result }
     {
-        self.may_promise(epoch, replica)?;
+        self.check_promise(epoch, replica)?;
         let promise = self.handed_in(replica, entries, marks)?;
         self.keep_promise(epoch, replica, promise, word)
     }
@@ -210,7 +185,7 @@ impl<B: Keeping> Replicas<B> {
         ensures size { self.new.faults ≡ self.old.faults }
         ensures err { OnErr result (self.new ≡ self.old) }
     {
-        if let Some(base) = self.made(epoch) {
+        if let Some(base) = self.made_base(epoch) {
             return Ok(counted(base));
         }
         self.may_merge(epoch, word.get())?;
@@ -239,9 +214,9 @@ impl<B: Keeping> Replicas<B> {
         ensures does { Does B.stands self.old self.new nothing_handed (AdoptLine epoch replica) (told done result) }
         ensures size { self.new.faults ≡ self.old.faults }
         ensures err { OnErr result (self.new ≡ self.old) }
-        ensures word { IsWritten W.kept W.faults epoch word.old word.new result }
+        ensures word { IsWritten W.kept W.sets W.faults epoch word.old word.new result }
     {
-        self.may_adopt(epoch, replica)?;
+        self.check_adopt(epoch, replica)?;
         let base = self.base_of(epoch)?;
         write_word(word, epoch)?;
         self.keep_adopted(epoch, replica, base);
@@ -277,6 +252,46 @@ impl<B: Keeping> Replicas<B> {
         self.keep_lost(replica, empty);
     }
 
+    // The first reason for which the replica's promise for the epoch would be refused.
+    fn check_promise(&self, epoch: u32, replica: u32) -> Result<(), EpochError>
+        requires { replica < members self.now.faults }
+        ensures answer { (state : EpochState) → StandsFor B.stands self.now state → told done result ≡ Some (global_answer state (PromiseLine epoch replica)) }
+        ensures early { IfErr result IsEarly }
+        ensures row { OnOk result (epoch < length self.now.changes) }
+        ensures above { OnOk result (word_at self.now.replicas replica < epoch) }
+    {
+        if !self.is_asked(epoch) {
+            return Err(EpochError::Unasked);
+        }
+        let replica = self.replica(replica);
+        if replica.lacks() {
+            return Err(EpochError::Lacking);
+        }
+        if epoch <= replica.word {
+            return Err(EpochError::Old(replica.word));
+        }
+        Ok(())
+    }
+
+    // The first reason for which the replica would not adopt the epoch.
+    fn check_adopt(&self, epoch: u32, replica: u32) -> Result<(), EpochError>
+        requires { replica < members self.now.faults }
+        ensures answer { (state : EpochState) → StandsFor B.stands self.now state → told done result ≡ Some (global_answer state (AdoptLine epoch replica)) }
+        ensures early { IfErr result IsEarly }
+        ensures row { OnOk result (epoch < length self.now.changes) }
+        ensures above { OnOk result (word_at self.now.replicas replica ≤ epoch) }
+        ensures made { OnOk result (IsSome (change_for epoch self.now.changes).made) }
+    {
+        if self.made_base(epoch).is_none() {
+            return Err(EpochError::Unmade);
+        }
+        let replica = self.replica(replica);
+        if replica.is_past(epoch) {
+            return Err(EpochError::Old(replica.word));
+        }
+        Ok(())
+    }
+
     fn replica(&self, replica: u32) -> &Replica<B>
         requires { replica < members self.now.faults }
         ensures { slice_get self.now.replicas replica ≡ Some result.now }
@@ -289,6 +304,13 @@ impl<B: Keeping> Replicas<B> {
         ensures { option_copied result ≡ slice_get self.now.changes epoch }
     {
         self.changes.get(epoch as usize)
+    }
+
+    // The base that was made for the epoch.
+    fn made_base(&self, epoch: u32) -> Option<&B>
+        ensures { option_copied result ≡ (change_for epoch self.now.changes).made }
+    {
+        self.change(epoch)?.made()
     }
 
     fn is_asked(&self, epoch: u32) -> bool
@@ -380,7 +402,7 @@ impl<B: Keeping> Replicas<B> {
         requires { IsSome (change_for epoch self.now.changes).made }
         ensures { IfOk result (λ copy. (made : B) → (change_for epoch self.now.changes).made ≡ Some made → (base : BaseState) → B.stands made base → B.stands copy base) }
     {
-        match self.made(epoch) {
+        match self.made_base(epoch) {
             Some(base) => base.copy(),
             None => unreachable!(),
         }
@@ -409,7 +431,7 @@ impl<B: Keeping> Replicas<B> {
         requires above { word_at self.old.replicas replica < epoch }
         ensures ok { OnOk result ((kept : KeptReplica B) × (slice_get self.old.replicas replica ≡ Some kept) × (self.new ≡ record self.old { replicas = slice_set self.old.replicas replica (record kept { word = epoch; phase = Paused }); changes = slice_set self.old.changes epoch (promised_to promise (change_for epoch self.old.changes)) })) }
         ensures err { OnErr result (self.new ≡ self.old) }
-        ensures word { IsWritten W.kept W.faults epoch word.old word.new result }
+        ensures word { IsWritten W.kept W.sets W.faults epoch word.old word.new result }
         ensures told { IfErr result IsFault }
     {
         self.changes[epoch as usize].promise(epoch, promise, word)?;

@@ -7,7 +7,7 @@ use mathlib.Core.Bool.{beq}
 use Rattle.mk_quorum.specs.Sizes.{members}
 use Rattle.mk_merge.specs.declared.Promise.{Promise}
 use Rattle.mk_merge.specs.Keepings.{chosen_of, counting_of, highest_of}
-use Rattle.mk_merge.proofs.ListLaws.{drop-at}
+use Rattle.mk_lists.proofs.Places.{drop_read}
 
 -- the promises that are borrowed
 abbrev pub states_of : {B : Type 0} → List (Bor (Promise B)) → List (Promise B)
@@ -18,20 +18,6 @@ states_of promises = map (λ p. p.now) promises
 -- with the promises that are left it comes to the highest of all
 abbrev pub ComesToHighest : {B : Type 0} → List (Bor (Promise B)) → ℕ → ℕ → Type 0
 ComesToHighest all i epoch = max epoch (highest_of (states_of (drop i all))) ≡ highest_of (states_of all)
-
-pub highest-begins : {B : Type 0} → (all : List (Bor (Promise B))) → ComesToHighest all 0 0
-highest-begins all = grind (arith, nat_tests)
-
-pub highest-next : {B : Type 0} → (all : List (Bor (Promise B))) (i : ℕ) (p : Bor (Promise B)) (old new : ℕ) → i < length all → p ≡ get_or all i p → new ≡ max p.now.adopted old → ComesToHighest all i old → ComesToHighest all (i + 1) new
-highest-next all i p old new within is made h =
-    let here : max old (max p.now.adopted (highest_of (states_of (drop (i + 1) all)))) ≡ highest_of (states_of all) =
-    subst (λ left. max old (highest_of (states_of left)) ≡ highest_of (states_of all)) (drop-at all i p within is) h in
-    grind (arith, nat_tests, here, made)
-
-pub highest-ends : {B : Type 0} → (all : List (Bor (Promise B))) (i epoch : ℕ) → length all ≤ i → ComesToHighest all i epoch → epoch ≡ highest_of (states_of all)
-highest-ends all i epoch past h =
-    let none : max epoch 0 ≡ highest_of (states_of all) = subst (λ left. max epoch (highest_of (states_of left)) ≡ highest_of (states_of all)) (drop_all i all past) h in
-    grind (arith, nat_tests, none)
 
 -- those of one adopted epoch
 pub states-filter : {B : Type 0} → (adopted : ℕ) (found : List (Bor (Promise B))) → states_of (filter (λ p. p.now.adopted == adopted) found) ≡ filter (λ p. p.adopted == adopted) (states_of found)
@@ -77,31 +63,8 @@ some-add leader leads count all i p begun old new (suc room) within is other som
     ∙ ap (λ found. found ++ take room more) pushed
     ∙ append_assoc old (p ∷ []) (take room more)
     ∙ ap (λ b. old ++ take (suc room) (if b then p ∷ more else more)) (sym (is_of-hit leader leads p other))
-    ∙ ap (λ left. old ++ take (suc room) (filter (is_of leader leads) left)) (sym (drop-at all i p within is))
+    ∙ ap (λ left. old ++ take (suc room) (filter (is_of leader leads) left)) (sym (drop_read all i p within is))
     ∙ h
-
-pub some-skip : {B : Type 0} → (leader : ℕ) (leads : Bool) (count : ℕ) (all : List (Promise B)) (i : ℕ) (p : Promise B) (begun found : List (Promise B)) (room : ℕ) → i < length all → p ≡ get_or all i p → ((p.replica == leader) ≡ leads → ⊥)
-    → ComesToSome leader leads count all i begun found room → ComesToSome leader leads count all (i + 1) begun found room
-some-skip leader leads count all i p begun found room within is same h =
-    let more = filter (is_of leader leads) (drop (i + 1) all) in
-    ap (λ b. found ++ take room (if b then p ∷ more else more)) (sym (is_of-miss leader leads p same))
-    ∙ ap (λ left. found ++ take room (filter (is_of leader leads) left)) (sym (drop-at all i p within is))
-    ∙ h
-
--- there is no room for more
-pub some-full : {B : Type 0} → (leader : ℕ) (leads : Bool) (count : ℕ) (all : List (Promise B)) (i : ℕ) (begun found : List (Promise B)) (room : ℕ) → room ≡ 0
-    → ComesToSome leader leads count all i begun found room → found ≡ begun ++ take count (filter (is_of leader leads) all)
-some-full leader leads count all i begun found room full h =
-    sym (append-nil found) ∙ sym (ap (λ r. found ++ take r (filter (is_of leader leads) (drop i all))) full) ∙ h
-
-pub some-end : {B : Type 0} → (leader : ℕ) (leads : Bool) (count : ℕ) (all : List (Promise B)) (i : ℕ) (begun found : List (Promise B)) (room : ℕ) → length all ≤ i
-    → ComesToSome leader leads count all i begun found room → found ≡ begun ++ take count (filter (is_of leader leads) all)
-some-end {B = B} leader leads count all i begun found room past h =
-    sym (append-nil found) ∙ ap (λ left. found ++ left) (sym (none room)) ∙ ap (λ left. found ++ take room (filter (is_of leader leads) left)) (sym (drop_all i all past)) ∙ h
-  where
-    none : (n : ℕ) → take n (filter (is_of {B = B} leader leads) []) ≡ []
-    none zero = refl
-    none (suc n) = refl
 
 pub states-push : {B : Type 0} → (old new : List (Bor (Promise B))) (p : Bor (Promise B)) → new ≡ old ++ p ∷ [] → states_of new ≡ states_of old ++ p.now ∷ []
 states-push {B = B} old new p is = ap states_of is ∙ appended old

@@ -11,10 +11,10 @@ use Rattle.mk_txn.specs.Stamps.{is_before, later_stamp}
 use Rattle.mk_txn.specs.Transactions.{Transaction}
 use Rattle.mk_txn.specs.LatestWrites.{after_writes}
 use Rattle.mk_txn.specs.Outcomes.{is_commit}
-use Rattle.mk_merge.specs.declared.Fated.{Fated}
-use Rattle.mk_merge.specs.Bases.{commits_in}
-use Rattle.mk_merge.specs.Lefts.{LeftState, nothing_left, with_write, with_read, after_reads, after_commit, left_by, AreWritten, AreRead, AreLeft}
-use Rattle.mk_merge.proofs.ListLaws.{drop-at}
+use Rattle.mk_words.specs.declared.Fated.{Fated}
+use Rattle.mk_words.specs.Bases.{commits_in}
+use Rattle.mk_merge_laws.specs.Lefts.{LeftState, nothing_left, with_write, with_read, after_reads, after_commit, left_by, AreWritten, AreRead, AreLeft}
+use Rattle.mk_lists.proofs.Places.{drop_read}
 
 -- what is read inside a list is read whatever stands for its outside
 pub default-free : {X : Type 0} (xs : List X) (k : ℕ) (a b : X) → k < length xs → get_or xs k a ≡ get_or xs k b
@@ -34,9 +34,6 @@ pub record ComeToWritten (stamp : Stamp) (all left : List WriteItem) (old now : 
   pub long : length now ≡ length old
   pub latest : (key : ℕ) (d : LeftState) → key < length old → after_writes key stamp (get_or now key d).latest left ≡ after_writes key stamp (get_or old key d).latest all
   pub rts : (key : ℕ) (d : LeftState) → key < length old → (get_or now key d).rts ≡ (get_or old key d).rts
-
-pub written-begins : (stamp : Stamp) (all : List WriteItem) (old : List LeftState) → ComeToWritten stamp all all old old
-written-begins stamp all old = record { long = refl; latest = λ key d within. refl; rts = λ key d within. refl }
 
 pub written-ends : (stamp : Stamp) (all : List WriteItem) (i : ℕ) (old now : List LeftState) → length all ≤ i → ComeToWritten stamp all (drop i all) old now → AreWritten stamp all old now
 written-ends stamp all i old now past h =
@@ -91,12 +88,7 @@ pub written-next : (stamp : Stamp) (all : List WriteItem) (i : ℕ) (item : Writ
     → ComeToWritten stamp all (drop i all) old now → ComeToWritten stamp all (drop (i + 1) all) old (set now item.key new)
 written-next stamp all i item old now x new within is inside at made h =
     subst (λ y. ComeToWritten stamp all (drop (i + 1) all) old (set now item.key y)) (sym made)
-    (written-here stamp all (drop (i + 1) all) item old now x inside at (subst (λ left. ComeToWritten stamp all left old now) (drop-at all i item within is) h))
-
-pub written-skip : (stamp : Stamp) (all : List WriteItem) (i : ℕ) (item : WriteItem) (old now : List LeftState) → i < length all → item ≡ get_or all i item → length now ≤ item.key
-    → ComeToWritten stamp all (drop i all) old now → ComeToWritten stamp all (drop (i + 1) all) old now
-written-skip stamp all i item old now within is past h =
-    written-past stamp all (drop (i + 1) all) item old now past (subst (λ left. ComeToWritten stamp all left old now) (drop-at all i item within is) h)
+    (written-here stamp all (drop (i + 1) all) item old now x inside at (subst (λ left. ComeToWritten stamp all left old now) (drop_read all i item within is) h))
 
 -- ---- reads
 
@@ -105,9 +97,6 @@ pub record ComeToRead (stamp : Stamp) (all left : List ReadItem) (old now : List
   pub long : length now ≡ length old
   pub latest : (key : ℕ) (d : LeftState) → key < length old → (get_or now key d).latest ≡ (get_or old key d).latest
   pub rts : (key : ℕ) (d : LeftState) → key < length old → after_reads key stamp (get_or now key d).rts left ≡ after_reads key stamp (get_or old key d).rts all
-
-pub read-begins : (stamp : Stamp) (all : List ReadItem) (old : List LeftState) → ComeToRead stamp all all old old
-read-begins stamp all old = record { long = refl; latest = λ key d within. refl; rts = λ key d within. refl }
 
 pub read-ends : (stamp : Stamp) (all : List ReadItem) (i : ℕ) (old now : List LeftState) → length all ≤ i → ComeToRead stamp all (drop i all) old now → AreRead stamp all old now
 read-ends stamp all i old now past h =
@@ -158,12 +147,7 @@ pub read-next : (stamp : Stamp) (all : List ReadItem) (i : ℕ) (item : ReadItem
     → ComeToRead stamp all (drop i all) old now → ComeToRead stamp all (drop (i + 1) all) old (set now item.key new)
 read-next stamp all i item old now x new within is inside at made h =
     subst (λ y. ComeToRead stamp all (drop (i + 1) all) old (set now item.key y)) (sym made)
-    (read-here stamp all (drop (i + 1) all) item old now x inside at (subst (λ left. ComeToRead stamp all left old now) (drop-at all i item within is) h))
-
-pub read-skip : (stamp : Stamp) (all : List ReadItem) (i : ℕ) (item : ReadItem) (old now : List LeftState) → i < length all → item ≡ get_or all i item → length now ≤ item.key
-    → ComeToRead stamp all (drop i all) old now → ComeToRead stamp all (drop (i + 1) all) old now
-read-skip stamp all i item old now within is past h =
-    read-past stamp all (drop (i + 1) all) item old now past (subst (λ left. ComeToRead stamp all left old now) (drop-at all i item within is) h)
+    (read-here stamp all (drop (i + 1) all) item old now x inside at (subst (λ left. ComeToRead stamp all left old now) (drop_read all i item within is) h))
 
 -- ---- commits
 
@@ -191,27 +175,3 @@ left-next all left txn keys old written new writes reads h = record {
   left-is a b e f = λ i. record { latest = e i; rts = f i }
 
 -- ---- a list of fates
-
-pub lefts-begin : (list : List Fated) (keys : ℕ) → ComeToLeft (commits_in list) (commits_in (drop 0 list)) keys (replicate keys nothing_left)
-lefts-begin list keys = record {
-  long = length-replicate keys nothing_left;
-  each = λ key d within. ap (λ (l : LeftState). left_by key l (commits_in list)) (get_or-replicate keys key nothing_left d within);
-}
-
-pub lefts-end : (list : List Fated) (i keys : ℕ) (lefts : List LeftState) → length list ≤ i → ComeToLeft (commits_in list) (commits_in (drop i list)) keys lefts → AreLeft (commits_in list) keys lefts
-lefts-end list i keys lefts past h =
-    left-ends (commits_in list) keys lefts (subst (λ left. ComeToLeft (commits_in list) (commits_in left) keys lefts) (drop_all i list past) h)
-
-pub lefts-next : (list : List Fated) (i : ℕ) (f : Fated) (keys : ℕ) (old written new : List LeftState) → i < length list → f ≡ get_or list i f → is_commit f.outcome ≡ true
-    → AreWritten f.txn.stamp f.txn.writes old written → AreRead f.txn.stamp f.txn.reads written new
-    → ComeToLeft (commits_in list) (commits_in (drop i list)) keys old → ComeToLeft (commits_in list) (commits_in (drop (i + 1) list)) keys new
-lefts-next list i f keys old written new within is commit writes reads h =
-    left-next (commits_in list) (commits_in (drop (i + 1) list)) f.txn keys old written new writes reads
-    (subst (λ left. ComeToLeft (commits_in list) left keys old)
-    (ap commits_in (drop-at list i f within is) ∙ ap (λ b. if b then f.txn ∷ commits_in (drop (i + 1) list) else commits_in (drop (i + 1) list)) commit) h)
-
-pub lefts-skip : (list : List Fated) (i : ℕ) (f : Fated) (keys : ℕ) (lefts : List LeftState) → i < length list → f ≡ get_or list i f → is_commit f.outcome ≡ false
-    → ComeToLeft (commits_in list) (commits_in (drop i list)) keys lefts → ComeToLeft (commits_in list) (commits_in (drop (i + 1) list)) keys lefts
-lefts-skip list i f keys lefts within is abort h =
-    subst (λ left. ComeToLeft (commits_in list) left keys lefts)
-    (ap commits_in (drop-at list i f within is) ∙ ap (λ b. if b then f.txn ∷ commits_in (drop (i + 1) list) else commits_in (drop (i + 1) list)) abort) h

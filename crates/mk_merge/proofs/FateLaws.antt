@@ -9,9 +9,9 @@ use Rattle.mk_txn.specs.declared.Outcome.{Outcome}
 use Rattle.mk_txn.specs.declared.Outcome.TheVariants.{Commit, Abort}
 use Rattle.mk_txn.specs.Clashes.{conflict}
 use Rattle.mk_txn.specs.Transactions.{Transaction, same_id}
-use Rattle.mk_merge.specs.declared.Fated.{Fated}
-use Rattle.mk_merge.specs.Merging.{taken, fate_by}
-use Rattle.mk_merge.proofs.ListLaws.{drop-at}
+use Rattle.mk_words.specs.declared.Fated.{Fated}
+use Rattle.mk_words.specs.Merging.{taken, fate_by}
+use Rattle.mk_lists.proofs.Places.{drop_read}
 
 -- the transactions that are borrowed
 abbrev pub nows : List (Bor Transaction) → List Transaction
@@ -34,7 +34,7 @@ passing-add p all i t old new within is pass pushed h =
     ap (λ found. found ++ more) pushed
     ∙ append_assoc old (t.now ∷ []) more
     ∙ ap (λ b. old ++ (if b then t.now ∷ more else more)) (sym pass)
-    ∙ ap (λ left. old ++ filter p (nows left)) (sym (drop-at all i t within is))
+    ∙ ap (λ left. old ++ filter p (nows left)) (sym (drop_read all i t within is))
     ∙ h
 
 pub passing-skip : (p : Transaction → Bool) (all : List (Bor Transaction)) (i : ℕ) (t : Bor Transaction) (found : List Transaction) → i < length all → t ≡ get_or all i t → p t.now ≡ false
@@ -42,7 +42,7 @@ pub passing-skip : (p : Transaction → Bool) (all : List (Bor Transaction)) (i 
 passing-skip p all i t found within is miss h =
     let more = filter p (nows (drop (i + 1) all)) in
     ap (λ b. found ++ (if b then t.now ∷ more else more)) (sym miss)
-    ∙ ap (λ left. found ++ filter p (nows left)) (sym (drop-at all i t within is))
+    ∙ ap (λ left. found ++ filter p (nows left)) (sym (drop_read all i t within is))
     ∙ h
 
 pub passing-ends : (p : Transaction → Bool) (all : List (Bor Transaction)) (i : ℕ) (found : List Transaction) → length all ≤ i → ComesToPassing p all i found → found ≡ filter p (nows all)
@@ -52,58 +52,17 @@ passing-ends p all i found past h = sym (append-nil found) ∙ ap (λ left. foun
 abbrev pub ComesToFiltered : (Transaction → Bool) → List (Bor Transaction) → ℕ → List (Bor Transaction) → Type 0
 ComesToFiltered p all i found = ComesToPassing p all i (nows found)
 
-pub filtered-add : (p : Transaction → Bool) (all : List (Bor Transaction)) (i : ℕ) (t : Bor Transaction) (old new : List (Bor Transaction)) → i < length all → t ≡ get_or all i t → p t.now ≡ true → new ≡ old ++ t ∷ []
-    → ComesToFiltered p all i old → ComesToFiltered p all (i + 1) new
-filtered-add p all i t old new within is pass pushed h = passing-add p all i t (nows old) (nows new) within is pass (ap nows pushed ∙ nows-push old t) h
-
-pub filtered-skip : (p : Transaction → Bool) (all : List (Bor Transaction)) (i : ℕ) (t : Bor Transaction) (found : List (Bor Transaction)) → i < length all → t ≡ get_or all i t → p t.now ≡ false
-    → ComesToFiltered p all i found → ComesToFiltered p all (i + 1) found
-filtered-skip p all i t found within is miss h = passing-skip p all i t (nows found) within is miss h
-
-pub filtered-ends : (p : Transaction → Bool) (all : List (Bor Transaction)) (i : ℕ) (found : List (Bor Transaction)) → length all ≤ i → ComesToFiltered p all i found → nows found ≡ filter p (nows all)
-filtered-ends p all i found past h = passing-ends p all i (nows found) past h
-
 -- ---- candidates in turn
 
 -- with those that are left it comes to all that are taken
 abbrev pub ComesToTaken : List (Bor Transaction) → ℕ → List Transaction → List Transaction → Type 0
 ComesToTaken all i begun commits = taken commits (nows (drop i all)) ≡ taken begun (nows all)
 
-pub taken-add : (all : List (Bor Transaction)) (i : ℕ) (t : Bor Transaction) (begun old new : List Transaction) → i < length all → t ≡ get_or all i t → list_any (conflict t.now) old ≡ false → new ≡ old ++ t.now ∷ []
-    → ComesToTaken all i begun old → ComesToTaken all (i + 1) begun new
-taken-add all i t begun old new within is free pushed h =
-    ap (λ commits. taken commits (nows (drop (i + 1) all))) pushed
-    ∙ ap (λ b. taken (if b then old else old ++ t.now ∷ []) (nows (drop (i + 1) all))) (sym free)
-    ∙ ap (λ left. taken old (nows left)) (sym (drop-at all i t within is))
-    ∙ h
-
-pub taken-skip : (all : List (Bor Transaction)) (i : ℕ) (t : Bor Transaction) (begun commits : List Transaction) → i < length all → t ≡ get_or all i t → list_any (conflict t.now) commits ≡ true
-    → ComesToTaken all i begun commits → ComesToTaken all (i + 1) begun commits
-taken-skip all i t begun commits within is clash h =
-    ap (λ b. taken (if b then commits else commits ++ t.now ∷ []) (nows (drop (i + 1) all))) (sym clash)
-    ∙ ap (λ left. taken commits (nows left)) (sym (drop-at all i t within is))
-    ∙ h
-
-pub taken-ends : (all : List (Bor Transaction)) (i : ℕ) (begun commits : List Transaction) → length all ≤ i → ComesToTaken all i begun commits → commits ≡ taken begun (nows all)
-taken-ends all i begun commits past h = ap (λ left. taken commits (nows left)) (sym (drop_all i all past)) ∙ h
-
 -- ---- every transaction with its fate
 
 -- with those that are left it comes to all fates
 abbrev pub ComesToFates : (Transaction → Fated) → List (Bor Transaction) → ℕ → List Fated → Type 0
 ComesToFates F all i list = list ++ map F (nows (drop i all)) ≡ map F (nows all)
-
-pub fates-add : (F : Transaction → Fated) (all : List (Bor Transaction)) (i : ℕ) (t : Bor Transaction) (f : Fated) (old new : List Fated) → i < length all → t ≡ get_or all i t → f ≡ F t.now → new ≡ old ++ f ∷ []
-    → ComesToFates F all i old → ComesToFates F all (i + 1) new
-fates-add F all i t f old new within is made pushed h =
-    let more = map F (nows (drop (i + 1) all)) in
-    ap (λ list. list ++ more) (pushed ∙ ap (λ x. old ++ x ∷ []) made)
-    ∙ append_assoc old (F t.now ∷ []) more
-    ∙ ap (λ left. old ++ map F (nows left)) (sym (drop-at all i t within is))
-    ∙ h
-
-pub fates-end : (F : Transaction → Fated) (all : List (Bor Transaction)) (i : ℕ) (list : List Fated) → length all ≤ i → ComesToFates F all i list → list ≡ map F (nows all)
-fates-end F all i list past h = sym (append-nil list) ∙ ap (λ left. list ++ map F (nows left)) (sym (drop_all i all past)) ∙ h
 
 -- ---- one fate
 

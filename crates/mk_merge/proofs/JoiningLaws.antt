@@ -5,10 +5,10 @@ use Rattle.std.proofs.Math.Seq.{drop-cons}
 use Rattle.mk_lists.specs.Among.{Each, Each-weaker}
 use Rattle.mk_txn.specs.Transactions.{id_before}
 use Rattle.mk_txn.proofs.IdOrder.{id_before-through}
-use Rattle.mk_merge.specs.declared.Fated.{Fated}
-use Rattle.mk_merge.specs.Bases.{IsInIdOrder}
-use Rattle.mk_merge.specs.Adding.{put_fated, with_fated}
-use Rattle.mk_merge.proofs.ListLaws.{drop-at}
+use Rattle.mk_words.specs.declared.Fated.{Fated}
+use Rattle.mk_words.specs.Bases.{IsInIdOrder}
+use Rattle.mk_merge_laws.specs.Adding.{put_fated, with_fated}
+use Rattle.mk_lists.proofs.Places.{drop_read}
 
 -- one that is before all that are added stays first
 with-first : (x : Fated) (more list : List Fated) → Each (λ (f : Fated). id_before x.txn.id f.txn.id ≡ true) more → with_fated more (x ∷ list) ≡ x ∷ with_fated more list
@@ -35,7 +35,7 @@ ComesToJoined list at more next all = all ++ with_fated (drop next more) (drop a
 pub joined-more : (list : List Fated) (at : ℕ) (more : List Fated) (next : ℕ) (f : Fated) (old new : List Fated) → IsInIdOrder more → next < length more → f ≡ get_or more next f → new ≡ old ++ f ∷ []
     → put_fated f (drop at list) ≡ f ∷ drop at list → ComesToJoined list at more next old → ComesToJoined list at more (next + 1) new
 joined-more list at more next f old new order within is pushed first h =
-    let here : drop next more ≡ f ∷ drop (next + 1) more = drop-at more next f within is in
+    let here : drop next more ≡ f ∷ drop (next + 1) more = drop_read more next f within is in
     let later : IsInIdOrder (f ∷ drop (next + 1) more) = subst IsInIdOrder here (order-drop next more order) in
     ap (λ all. all ++ with_fated (drop (next + 1) more) (drop at list)) pushed
     ∙ append_assoc old (f ∷ []) (with_fated (drop (next + 1) more) (drop at list))
@@ -47,7 +47,7 @@ joined-more list at more next f old new order within is pushed first h =
 pub joined-list : (list : List Fated) (at : ℕ) (more : List Fated) (next : ℕ) (g : Fated) (old new : List Fated) → at < length list → g ≡ get_or list at g → new ≡ old ++ g ∷ []
     → Each (λ (f : Fated). id_before g.txn.id f.txn.id ≡ true) (drop next more) → ComesToJoined list at more next old → ComesToJoined list (at + 1) more next new
 joined-list list at more next g old new within is pushed first h =
-    let here : drop at list ≡ g ∷ drop (at + 1) list = drop-at list at g within is in
+    let here : drop at list ≡ g ∷ drop (at + 1) list = drop_read list at g within is in
     ap (λ all. all ++ with_fated (drop next more) (drop (at + 1) list)) pushed
     ∙ append_assoc old (g ∷ []) (with_fated (drop next more) (drop (at + 1) list))
     ∙ ap (λ left. old ++ left) (sym (with-first g (drop next more) (drop (at + 1) list) first))
@@ -75,7 +75,3 @@ before-more more next g order within e =
 
 pub before-end : (more : List Fated) (next : ℕ) (g : Fated) → length more ≤ next → Each (λ (x : Fated). id_before g.txn.id x.txn.id ≡ true) (drop next more)
 before-end more next g past = subst (λ left. Each (λ (x : Fated). id_before g.txn.id x.txn.id ≡ true) left) (sym (drop_all next more past)) tt
-
-pub joined-ends : (list : List Fated) (at : ℕ) (more : List Fated) (next : ℕ) (all : List Fated) → length list ≤ at → length more ≤ next → ComesToJoined list at more next all → all ≡ with_fated more list
-joined-ends list at more next all past end h =
-    sym (append-nil all) ∙ ap (λ left. all ++ left) (sym (drop_all at list past)) ∙ ap (λ left. all ++ with_fated left (drop at list)) (sym (drop_all next more end)) ∙ h

@@ -8,11 +8,11 @@ use Rattle.mk_txn.specs.declared.Outcome.{Outcome}
 use Rattle.mk_txn.specs.MarkMaps.{MarkMap, IsMarkMap, joined_marks, covers}
 use Rattle.mk_txn.specs.Transactions.{id_before}
 use Rattle.mk_txn.proofs.MarkLaws.{IsMarkMap-joined, mark_of-joined, MarkMap-from_marks}
-use Rattle.mk_trim.specs.KeptOutcomes.{KeptOutcomes, Outcomes, put_outcome, with_outcome, not_covered, covered_by, nothing_kept}
-use Rattle.mk_merge.specs.declared.Fated.{Fated}
-use Rattle.mk_merge.specs.Bases.{IsInIdOrder, fates_in, kept_of}
-use Rattle.mk_merge.specs.Adding.{put_fates}
-use Rattle.mk_merge.proofs.ListLaws.{drop-at}
+use Rattle.mk_words.specs.KeptOutcomes.{KeptOutcomes, Outcomes, put_outcome, with_outcome, not_covered, covered_by, nothing_kept}
+use Rattle.mk_words.specs.declared.Fated.{Fated}
+use Rattle.mk_words.specs.Bases.{IsInIdOrder, fates_in, kept_of}
+use Rattle.mk_merge_laws.specs.Adding.{put_fates}
+use Rattle.mk_lists.proofs.Places.{drop_read}
 
 -- marks that join none are the marks
 pub joined_marks-none : (marks : MarkMap) → IsMarkMap marks → joined_marks [] marks ≡ marks
@@ -67,7 +67,4 @@ kept-begins list marks kept order h is =
 pub kept-next : (list : List Fated) (marks : MarkMap) (i : ℕ) (f : Fated) (old new : KeptOutcomes) → i < length list → f ≡ get_or list i f → new ≡ with_outcome f.txn.id f.outcome old
     → ComesToKept list marks (drop i list) old → ComesToKept list marks (drop (i + 1) list) new
 kept-next list marks i f old new within is put e =
-    ap (put_fates (drop (i + 1) list)) put ∙ subst (λ left. put_fates left old ≡ kept_of (record { list = list; marks = marks })) (drop-at list i f within is) e
-
-pub kept-ends : (list : List Fated) (marks : MarkMap) (i : ℕ) (kept : KeptOutcomes) → length list ≤ i → ComesToKept list marks (drop i list) kept → kept ≡ kept_of (record { list = list; marks = marks })
-kept-ends list marks i kept past e = subst (λ left. ComesToKept list marks left kept) (drop_all i list past) e
+    ap (put_fates (drop (i + 1) list)) put ∙ subst (λ left. put_fates left old ≡ kept_of (record { list = list; marks = marks })) (drop_read list i f within is) e

@@ -1,8 +1,5 @@
-pub mod KnownLaws
-mod MergeRows
 pub mod ListLaws
 pub mod KeptLaws
-pub mod LeftLaws
 pub mod EveryKey
 pub mod CellsMade
 pub mod ChoosingLaws
@@ -10,16 +7,9 @@ pub mod ReportLaws
 pub mod OrderLaws
 pub mod FateLaws
 pub mod StampLaws
-pub mod BaseLaws
 pub mod JoiningLaws
-pub mod Members
-pub mod Fitting
-pub mod AddingLaws
 pub mod StandLaws
-pub mod MergedLaws
-pub mod BaseWith
 pub mod AscendingLaws
 pub mod ListedFate
 pub mod SpanningLaws
 pub mod ClashingLaws
-pub mod Examples

@@ -9,8 +9,8 @@ use Rattle.mk_lists.specs.Among.{Each}
 use Rattle.mk_txn.specs.declared.TxnId.{TxnId}
 use Rattle.mk_txn.specs.Transactions.{same_id, id_before, id_cmp}
 use Rattle.mk_txn.proofs.IdOrder.{id_before-not_back, id_before-not_same, id_cmp-less, id_cmp-equal, id_cmp-total, same_id-tells}
-use Rattle.mk_merge.specs.declared.Fated.{Fated}
-use Rattle.mk_merge.specs.Bases.{IsInIdOrder, fate_in}
+use Rattle.mk_words.specs.declared.Fated.{Fated}
+use Rattle.mk_words.specs.Bases.{IsInIdOrder, fate_in}
 use Rattle.mk_merge.proofs.AscendingLaws.{Each-at, Each-back}
 
 -- numbers in order can be searched by halves

@@ -1,7 +1,8 @@
 -- Transactions gathered, and put in order of their numbers.
-use Rattle.std.proofs.Common.{◌≡◌, ℕ, zero, suc, ◌<◌, ◌+◌, ◌⊎◌, inl, inr, Bool, true, false, refl, sym, ap, subst, ◌∙◌, List, [], ◌∷◌, length, get_or, map, drop, arith, if◌then◌else◌, Ordering, Less, Equal, Greater}
+use Rattle.std.proofs.Common.{◌≡◌, ℕ, zero, suc, ◌<◌, ◌+◌, inl, inr, Bool, true, false, refl, sym, ap, subst, ◌∙◌, List, [], ◌∷◌, ◌++◌, length, get_or, map, filter, drop, append_assoc, arith, if◌then◌else◌, Ordering, Less, Equal, Greater}
 use Rattle.std.proofs.lemmas.Bool.{false≢true}
 use Rattle.std.proofs.lemmas.List.{drop_all}
+use Rattle.std.proofs.lemmas.List.Elements.{filter-append}
 use Rattle.std.specs.Ordering.{is_lt, is_eq, match_ordering}
 use Rattle.std.specs.BTreeMap.{insert_entry}
 use Rattle.std.specs.Borrow.{Bor}
@@ -9,8 +10,24 @@ use Rattle.mk_lists.specs.Among.{Among, Each}
 use Rattle.mk_txn.specs.declared.TxnId.{TxnId}
 use Rattle.mk_txn.specs.Transactions.{Transaction, AreCoherent, same_id, id_before, id_cmp}
 use Rattle.mk_txn.proofs.IdOrder.{id_before-itself, id_before-not_back, same_id-tells, same_id-itself, id_cmp-less, id_cmp-equal, id-from_neither}
-use Rattle.mk_merge.specs.Bases.{placed_by_id, in_id_order}
-use Rattle.mk_merge.proofs.ListLaws.{drop-at}
+use Rattle.mk_words.specs.declared.Entry.{Entry}
+use Rattle.mk_words.specs.Promises.{PromiseState}
+use Rattle.mk_words.specs.Bases.{placed_by_id, in_id_order}
+use Rattle.mk_merge_laws.specs.Adding.{entered_txns}
+use Rattle.mk_merge_laws.proofs.Orders.{ordered_from}
+use Rattle.mk_lists.proofs.Places.{drop_read}
+
+-- ---- what is new, gathered
+
+-- with the promises that are left it comes to what is new of all
+pub entered-next : (p : Transaction → Bool) (ps : List PromiseState) (i : ℕ) (x : PromiseState) (entries : List Entry) (old new all : List Transaction) → i < length ps → x ≡ get_or ps i x → entries ≡ x.entries
+    → new ≡ old ++ filter p (map (λ (e : Entry). e.txn) entries) → old ++ filter p (entered_txns (drop i ps)) ≡ all → new ++ filter p (entered_txns (drop (i + 1) ps)) ≡ all
+entered-next p ps i x entries old new all within is same made h =
+    ap (λ (ts : List Transaction). ts ++ filter p (entered_txns (drop (i + 1) ps))) (made ∙ ap (λ es. old ++ filter p (map (λ (e : Entry). e.txn) es)) same)
+    ∙ append_assoc old (filter p (map (λ (e : Entry). e.txn) x.entries)) (filter p (entered_txns (drop (i + 1) ps)))
+    ∙ ap (λ ts. old ++ ts) (sym (filter-append p (map (λ (e : Entry). e.txn) x.entries) (entered_txns (drop (i + 1) ps))))
+    ∙ ap (λ left. old ++ filter p (entered_txns left)) (sym (drop_read ps i x within is))
+    ∙ h
 
 -- ---- by number
 
@@ -85,21 +102,6 @@ AreKeyed-insert (first ∷ rest) txn keyed = by_order (AreKeyed-insert rest txn 
     by_order more Equal e = (sym (same_from_equal txn.now.id first.0 e), keyed.1)
     by_order more Greater e = (keyed.0, more)
 
--- what is placed is among what it was placed in, or it is the one that was placed
-pub Among-placed : (other txn : Transaction) (txns : List Transaction) → Among other (placed_by_id txn txns) → (txn ≡ other) ⊎ Among other txns
-Among-placed other txn [] a = a
-Among-placed other txn (first ∷ rest) a = by_place (Among-placed other txn rest) (id_before first.id txn.id) (same_id first.id txn.id) a
-  where
-    by_place : (Among other (placed_by_id txn rest) → (txn ≡ other) ⊎ Among other rest) → (b c : Bool) → Among other (if b then first ∷ placed_by_id txn rest else if c then first ∷ rest else txn ∷ (first ∷ rest)) → (txn ≡ other) ⊎ Among other (first ∷ rest)
-    by_place more true c (inl e) = inr (inl e)
-    by_place more true c (inr a) = elim (more a) [ inl e ↦ inl e | inr b ↦ inr (inr b) ]
-    by_place more false true a = inr a
-    by_place more false false a = a
-
-pub Among-ordered : (other : Transaction) (txns : List Transaction) → Among other (in_id_order txns) → Among other txns
-Among-ordered other [] a = a
-Among-ordered other (txn ∷ txns) a = elim (Among-placed other txn (in_id_order txns) a) [ inl e ↦ inl e | inr b ↦ inr (Among-ordered other txns b) ]
-
 Among-drop : (other : Transaction) (i : ℕ) (txns : List Transaction) → Among other (drop i txns) → Among other txns
 Among-drop other zero txns a = a
 Among-drop other (suc i) [] a = a
@@ -115,17 +117,11 @@ pub record AreOrdered (all : List Transaction) (left : ℕ) (entries : List (Txn
   pub keyed : AreKeyed entries
   pub ordered : txns_in entries ≡ in_id_order (drop left all)
 
-pub ordered-begins : (all : List Transaction) (left : ℕ) (entries : List (TxnId × Bor Transaction)) → left ≡ length all → entries ≡ [] → AreOrdered all left entries
-ordered-begins all left entries is none = record {
-  keyed = subst AreKeyed (sym none) tt;
-  ordered = ap txns_in none ∙ sym (ap in_id_order (drop_all left all (let e = is in omega (arith, e))));
-}
-
 pub ordered-next : (all : List Transaction) (left before : ℕ) (txn : Bor Transaction) (id : TxnId) (old new : List (TxnId × Bor Transaction)) → AreCoherent all → left ≡ before + 1 → before < length all → txn.now ≡ get_or all before txn.now → id ≡ txn.now.id
     → new ≡ insert_entry id_cmp old id txn → AreOrdered all left old → AreOrdered all before new
 ordered-next all left before txn id old new coherent is within at key made h = record {
   keyed = subst AreKeyed (sym inserted) (AreKeyed-insert old txn h.keyed);
-  ordered = ap txns_in inserted ∙ txns_in-insert old txn h.keyed only ∙ ap (placed_by_id txn.now) here ∙ sym (ap in_id_order (drop-at all before txn.now within at));
+  ordered = ap txns_in inserted ∙ txns_in-insert old txn h.keyed only ∙ ap (placed_by_id txn.now) here ∙ sym (ap in_id_order (drop_read all before txn.now within at));
 } where
   inserted : new ≡ insert_entry id_cmp old txn.now.id txn
   inserted = made ∙ ap (λ k. insert_entry id_cmp old k txn) key
@@ -135,7 +131,7 @@ ordered-next all left before txn id old new coherent is within at key made h = r
 
   only : IsOnly txn.now (txns_in old)
   only other a same =
-      coherent.one_of_a_number other txn.now (Among-drop other left all (Among-ordered other (drop left all) (subst (Among other) h.ordered a))) (subst (λ t. Among t all) (sym at) (Among-at before all txn.now within)) same
+      coherent.one_of_a_number other txn.now (Among-drop other left all (ordered_from other (drop left all) (subst (Among other) h.ordered a))) (subst (λ t. Among t all) (sym at) (Among-at before all txn.now within)) same
 
 -- what is borrowed at a place
 pub now-at : (txns : List (Bor Transaction)) (i : ℕ) (b : Bor Transaction) → i < length txns → b ≡ get_or txns i b → (b.now ≡ get_or (map (λ t. t.now) txns) i b.now) × (i < length (map (λ (t : Bor Transaction). t.now) txns))

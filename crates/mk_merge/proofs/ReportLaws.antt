@@ -7,9 +7,9 @@ use Rattle.mk_txn.specs.declared.TxnId.{TxnId}
 use Rattle.mk_txn.specs.declared.Outcome.{Outcome}
 use Rattle.mk_txn.specs.declared.Accepted.{Accepted}
 use Rattle.mk_txn.specs.Outcomes.{higher, highest}
-use Rattle.mk_record.specs.declared.Entry.{Entry}
-use Rattle.mk_merge.specs.Promises.{PromiseState}
-use Rattle.mk_merge.specs.Merging.{reported, reports_from, first_last}
+use Rattle.mk_words.specs.declared.Entry.{Entry}
+use Rattle.mk_words.specs.Promises.{PromiseState}
+use Rattle.mk_words.specs.Merging.{reported, reports_from, first_last}
 
 -- the reports from a replica on, of which there is one more
 reports-more : (ps : List PromiseState) (id : TxnId) (r end : ℕ) → r < end → reports_from ps id r (end - r) ≡ reported ps id r ∷ reports_from ps id (r + 1) (end - (r + 1))
@@ -24,17 +24,9 @@ reports-none ps id r end past = let none : end - r ≡ 0 = omega (arith, past) i
 abbrev pub ComesToLast : List PromiseState → TxnId → ℕ → ℕ → Type 0
 ComesToLast ps id r end = first_last (reports_from ps id r (end - r)) ≡ first_last (reports_from ps id 0 end)
 
-pub last-found : (ps : List PromiseState) (id : TxnId) (r end : ℕ) (outcome : Outcome) → r < end → Some outcome ≡ option_and_then (λ e. e.last) (reported ps id r) → ComesToLast ps id r end
-    → Some outcome ≡ first_last (reports_from ps id 0 end)
-last-found ps id r end outcome within is h =
-    ap (λ o. option_or o (first_last (reports_from ps id (r + 1) (end - (r + 1))))) is ∙ sym (ap first_last (reports-more ps id r end within)) ∙ h
-
 pub last-next : (ps : List PromiseState) (id : TxnId) (r end : ℕ) → r < end → None ≡ option_and_then (λ e. e.last) (reported ps id r) → ComesToLast ps id r end → ComesToLast ps id (r + 1) end
 last-next ps id r end within is h =
     ap (λ o. option_or o (first_last (reports_from ps id (r + 1) (end - (r + 1))))) is ∙ sym (ap first_last (reports-more ps id r end within)) ∙ h
-
-pub last-ends : (ps : List PromiseState) (id : TxnId) (r end : ℕ) → end ≤ r → ComesToLast ps id r end → None ≡ first_last (reports_from ps id 0 end)
-last-ends ps id r end past h = sym (ap first_last (reports-none ps id r end past)) ∙ h
 
 -- ---- the highest accepted outcome
 
@@ -75,6 +67,3 @@ view-next ps id r end old next new within is made h =
     ∙ sym (higher-through old (option_and_then (λ e. e.accepted) (reported ps id r)) rest)
     ∙ sym (ap (λ all. higher old (highest (accepted_in all))) (reports-more ps id r end within))
     ∙ h
-
-pub view-ends : (ps : List PromiseState) (id : TxnId) (r end : ℕ) (best : Option Accepted) → end ≤ r → ComesToHighestView ps id r end best → best ≡ highest (accepted_in (reports_from ps id 0 end))
-view-ends ps id r end best past h = sym (higher-none best) ∙ sym (ap (λ all. higher best (highest (accepted_in all))) (reports-none ps id r end past)) ∙ h

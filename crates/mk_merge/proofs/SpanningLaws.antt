@@ -13,8 +13,8 @@ use Rattle.mk_txn.proofs.StampOrder.{is_before-not_back, is_before-through, is_b
 use Rattle.mk_merge.specs.declared.spanning.Span.{Span}
 use Rattle.mk_merge.specs.Ascending.{AscendsBy, IsAscending, has_between}
 use Rattle.mk_merge.specs.Spanning.{spans_over, is_spanned, AreSpans}
-use Rattle.mk_merge.proofs.ListLaws.{drop-at}
 use Rattle.mk_merge.proofs.AscendingLaws.{Each-front, Each-back, ascends-dropped, ascends-replaced, none-pass, any-replaced}
+use Rattle.mk_lists.proofs.Places.{drop_read}
 
 -- ---- stamps
 
@@ -48,7 +48,7 @@ upto-fails low high xs i split = Each-weaker (λ s. is_before low s ≡ false) (
 
 pub between-there : (low high : Stamp) (xs : List Stamp) (i : ℕ) (x : Stamp) → IsAscending xs → IsPartitionPoint (λ s. is_before low s ≡ false) (λ s. is_before low s ≡ true) xs i → i < length xs → x ≡ get_or xs i x → is_before x high ≡ has_between low high xs
 between-there low high xs i x h split lt is =
-    let here : drop i xs ≡ x ∷ drop (i + 1) xs = drop-at xs i x lt is in
+    let here : drop i xs ≡ x ∷ drop (i + 1) xs = drop_read xs i x lt is in
     let above : is_before low x ≡ true = subst (λ s. is_before low s ≡ true) (sym is) (split.1 i x (omega arith) lt) in
     sym (found-behind (λ s. is_between low s high) xs i (upto-fails low high xs i split) ∙ ap (list_any (λ s. is_between low s high)) here ∙ first-settles low high x (drop (i + 1) xs) (subst IsAscending here (ascends-dropped (λ s. s) xs i h)) above)
 

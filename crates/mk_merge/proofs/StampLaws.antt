@@ -10,8 +10,8 @@ use Rattle.mk_txn.specs.declared.Stamp.{Stamp}
 use Rattle.mk_txn.specs.Stamps.{is_before, same_stamp, stamp_cmp}
 use Rattle.mk_txn.specs.Transactions.{Transaction}
 use Rattle.mk_txn.proofs.StampOrder.{is_before-not_back, same_stamp-tells, same_stamp-itself, stamp_cmp-less, stamp_cmp-equal, same-from_neither}
-use Rattle.mk_merge.specs.Bases.{placed_by_stamp, in_stamp_order}
-use Rattle.mk_merge.proofs.ListLaws.{drop-at}
+use Rattle.mk_words.specs.Bases.{placed_by_stamp, in_stamp_order}
+use Rattle.mk_lists.proofs.Places.{drop_read}
 
 -- the transactions of the entries of a table
 abbrev pub txns_at : List (Stamp × Bor Transaction) → List Transaction
@@ -111,7 +111,7 @@ table-next all left before txn stamp old new distinct is within at key made h = 
   here = h.ordered ∙ ap (λ k. in_stamp_order (drop k all)) is
 
   split : drop before all ≡ txn.now ∷ drop (before + 1) all
-  split = drop-at all before txn.now within at
+  split = drop_read all before txn.now within at
 
   fresh : Among txn.now.stamp (stamps_of (txns_at old)) → ⊥
   fresh a =

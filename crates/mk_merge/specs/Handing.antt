@@ -5,8 +5,8 @@ use Rattle.std.specs.Map.{lookup}
 use Rattle.std.specs.BTreeMap.{is_at}
 use Rattle.mk_txn.specs.declared.TxnId.{TxnId}
 use Rattle.mk_txn.specs.Transactions.{id_cmp}
-use Rattle.mk_record.specs.declared.Entry.{Entry}
-use Rattle.mk_record.specs.Entries.{entry_of}
+use Rattle.mk_words.specs.declared.Entry.{Entry}
+use Rattle.mk_words.specs.Entries.{entry_of}
 
 -- each attempt has its first entry in the index
 abbrev pub IsIndexed : List Entry → List (TxnId × Bor Entry) → Type 0

@@ -1,11 +1,10 @@
 -- Promises whose bases are kept as some value, and the promises that they stand for.
-use Rattle.std.specs.Prelude.{◌≡◌, ℕ, min, max, Bool, not, ◌&&◌, ◌==◌, nat_le, List, [], ◌∷◌, ◌++◌, length, filter, take, fold}
+use Rattle.std.specs.Prelude.{◌≡◌, ℕ, min, max, Bool, not, ◌&&◌, ◌==◌, nat_le, List, [], ◌∷◌, ◌++◌, length, filter, take}
 use Rattle.std.specs.List.{list_any}
-use Rattle.mk_txn.specs.MarkMaps.{MarkMap, joined_marks}
 use Rattle.mk_quorum.specs.Sizes.{majority_of}
 use Rattle.mk_merge.specs.declared.Promise.{Promise}
-use Rattle.mk_merge.specs.Bases.{BaseState, empty_base}
-use Rattle.mk_merge.specs.Promises.{PromiseState, leader_of}
+use Rattle.mk_words.specs.Bases.{BaseState, empty_base}
+use Rattle.mk_words.specs.Promises.{PromiseState, leader_of}
 
 -- the promise with a base of which its value stands
 pub record PromiseStands (B : Type 0) (stands : B → BaseState → Type 0) (promise : Promise B) (state : PromiseState) : Type 0 where
@@ -57,7 +56,3 @@ are_enough f epoch promises = nat_le (majority_of f) (length promises) && list_a
 -- what a promise hands in beside its base
 abbrev pub handed_in : {B : Type 0} → Promise B → PromiseState
 handed_in promise = record { replica = promise.replica; adopted = 0; base = empty_base; entries = promise.entries; marks = promise.marks }
-
--- of each client the greatest mark, in the base and in what was handed in
-abbrev pub raised_marks : MarkMap → List PromiseState → MarkMap
-raised_marks marks promises = fold (λ all p. joined_marks all p.marks) marks promises

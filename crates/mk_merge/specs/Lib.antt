@@ -1,11 +1,7 @@
 -- Bases of epochs.
-pub mod Bases
-pub mod Rebuilding
-pub mod Lefts
-pub mod Promises
-pub mod Merging
 pub mod Keepings
-pub mod Adding
+pub mod Standing
+pub mod Joining
 pub mod Handing
 pub mod Ascending
 pub mod Spanning

@@ -1,12 +1,12 @@
 //! What replicas hand in.
 ghost use Rattle.std.specs.Prelude.{◌≡◌, [], map, option_copied, IfOk};
-ghost use Rattle.mk_record.specs.Entries.{entry_of};
+ghost use Rattle.mk_words.specs.Entries.{entry_of};
 ghost use Rattle.mk_merge.specs.Handing.{IsIndexed};
 ghost use Rattle.mk_merge.specs.Keepings.{handed_in};
 
 use crate::{Entries, Promise};
-use mk_record::Entry;
 use mk_txn::{Marks, NoMemory, TxnId};
+use mk_words::Entry;
 use std::alloc::Global;
 use std::collections::BTreeMap;
 use std::marker::Model;
@@ -38,8 +38,8 @@ pub(crate) struct Handed<'a> {
 
 impl<'a> Model for Handed<'a> {
     ghost use Rattle.std.specs.Prelude.{[]};
-    ghost use Rattle.mk_merge.specs.Bases.{empty_base};
-    ghost use Rattle.mk_merge.specs.Promises.{PromiseState};
+    ghost use Rattle.mk_words.specs.Bases.{empty_base};
+    ghost use Rattle.mk_words.specs.Promises.{PromiseState};
     ghost use Rattle.mk_merge.specs.Handing.{IsIndexed};
 
     ghost Value = { PromiseState };
@@ -64,7 +64,7 @@ fn indexed<'a>(alloc: Global, entries: &'a [Entry]) -> Result<BTreeMap<TxnId, &'
 }
 
 impl<'a> Handed<'a> {
-    ghost use Rattle.mk_record.specs.Entries.{entry_of};
+    ghost use Rattle.mk_words.specs.Entries.{entry_of};
 
     fn of<B>(alloc: Global, promise: &'a Promise<B>) -> Result<Handed<'a>, NoMemory>
         ensures { IfOk result (λ handed. handed ≡ handed_in promise.now) }

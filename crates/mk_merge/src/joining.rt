@@ -1,9 +1,10 @@
 //! The base that an epoch's leader makes from promises, as a list.
 ghost use Rattle.std.specs.Prelude.{◌≡◌, ◌≤◌, true, false, Err, map, length, IfOk, IfErr};
-ghost use Rattle.mk_merge.specs.Bases.{IsInIdOrder};
-ghost use Rattle.mk_merge.specs.Promises.{can_merge, ArePromises};
-ghost use Rattle.mk_merge.specs.Merging.{merged, merged_from};
-ghost use Rattle.mk_merge.specs.Adding.{with_fated, TakesAdded, AreCounted};
+ghost use Rattle.mk_words.specs.Bases.{IsInIdOrder};
+ghost use Rattle.mk_words.specs.Promises.{can_merge, ArePromises};
+ghost use Rattle.mk_words.specs.Merging.{merged, merged_from};
+ghost use Rattle.mk_merge_laws.specs.Adding.{with_fated, AreCounted};
+ghost use Rattle.mk_merge.specs.Joining.{TakesAdded};
 ghost use Rattle.mk_merge.specs.Keepings.{listed, counted as is_count};
 
 use crate::choosing::counted;

@@ -1,10 +1,10 @@
 //! What an epoch's base is kept as.
 ghost use Rattle.std.specs.Prelude.{◌≡◌, true, false, List, Err, IfOk, IfErr};
-ghost use Rattle.mk_merge.specs.Bases.{BaseState, empty_base, kept_of};
-ghost use Rattle.mk_merge.specs.Rebuilding.{fits_base, NamesBelow};
-ghost use Rattle.mk_merge.specs.Lefts.{AreRebuilt};
-ghost use Rattle.mk_merge.specs.Promises.{PromiseState, ArePromises, can_merge};
-ghost use Rattle.mk_merge.specs.Merging.{merged};
+ghost use Rattle.mk_words.specs.Bases.{BaseState, empty_base, kept_of};
+ghost use Rattle.mk_words.specs.Rebuilding.{fits_base, NamesBelow};
+ghost use Rattle.mk_merge_laws.specs.Lefts.{AreRebuilt};
+ghost use Rattle.mk_words.specs.Promises.{PromiseState, ArePromises, can_merge};
+ghost use Rattle.mk_words.specs.Merging.{merged};
 ghost use Rattle.mk_merge.specs.Keepings.{Stand, counted};
 
 use crate::joining::merge_listed;

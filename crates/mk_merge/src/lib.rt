@@ -13,27 +13,20 @@ mod ordering;
 mod rebuilding;
 mod reporting;
 mod spanning;
-#[cfg(test)]
-mod tests;
 
 pub use choosing::counted;
 pub use keeping::Keeping;
 pub use merging::added;
-use mk_record::Entry;
 use mk_trim::Kept;
-use mk_txn::{Marks, NoMemory, Outcome, Txn};
+pub use mk_trim::ReplicaView;
+use mk_txn::{Marks, NoMemory};
+use mk_words::Entry;
+pub use mk_words::{Fated, Phase};
 pub use rebuilding::Left;
 use std::marker::Model;
 
-/// A transaction with its outcome in a base.
-#[derive(Drop, Debug)]
-pub struct Fated {
-    pub txn: Txn,
-    pub outcome: Outcome,
-}
-
 /// What an epoch begins with: transactions with their outcomes, in order of their numbers, and the marks of clients.
-#[derive(Drop, Debug)]
+#[derive(Drop)]
 pub struct Base {
     list: Vec<Fated>,
     // the outcomes that the marks do not cover, and the marks
@@ -42,7 +35,7 @@ pub struct Base {
 
 impl Model for Base {
     ghost use Rattle.std.specs.Prelude.{◌≡◌};
-    ghost use Rattle.mk_merge.specs.Bases.{BaseState, IsBase, kept_of};
+    ghost use Rattle.mk_words.specs.Bases.{BaseState, IsBase, kept_of};
 
     ghost Value = { BaseState };
 
@@ -52,21 +45,21 @@ impl Model for Base {
 }
 
 /// What a merge adds to a base: attempts with their outcomes, in order of their numbers, and the marks that then hold.
-#[derive(Drop, Debug)]
+#[derive(Drop)]
 pub struct Addition {
     pub list: Vec<Fated>,
     pub marks: Marks,
 }
 
 /// The entries of all columns at one replica.
-#[derive(Drop, Debug)]
+#[derive(Drop)]
 pub struct Entries {
     entries: Vec<Entry>,
 }
 
 impl Model for Entries {
     ghost use Rattle.std.specs.Prelude.{List};
-    ghost use Rattle.mk_record.specs.declared.Entry.{Entry};
+    ghost use Rattle.mk_words.specs.declared.Entry.{Entry};
 
     ghost Value = { List Entry };
 
@@ -74,7 +67,7 @@ impl Model for Entries {
 }
 
 /// What a replica hands in for an epoch change: the epoch it has adopted with that epoch's base, its entries, its marks.
-#[derive(Drop, Debug)]
+#[derive(Drop)]
 pub struct Promise<B> {
     pub replica: u32,
     pub adopted: u32,
@@ -100,25 +93,4 @@ impl From<NoMemory> for MergeError {
     fn from(_: NoMemory) -> MergeError {
         MergeError::NoMemory
     }
-}
-
-/// What a replica does with messages.
-#[derive(Clone, Copy, Debug, PartialEq, Eq)]
-pub enum Phase {
-    /// It takes them.
-    Serving,
-    /// It has promised an epoch change, and waits.
-    Paused,
-    /// It has adopted an epoch that nobody has entered since.
-    Adopted,
-    /// It has lost its memory.
-    Lacking,
-}
-
-/// What columns see of a replica in a round: its phase, the epoch that it has adopted, and what that epoch's base knows.
-#[derive(Drop, Debug)]
-pub struct ReplicaView {
-    pub phase: Phase,
-    pub epoch: u32,
-    pub fates: Kept,
 }

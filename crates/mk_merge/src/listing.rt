@@ -1,23 +1,12 @@
 //! A base, as the list of its transactions.
 ghost use Rattle.std.specs.Prelude.{◌≡◌, [], IfOk};
 ghost use Rattle.mk_txn.specs.MarkMaps.{IsMarkMap};
-ghost use Rattle.mk_merge.specs.Bases.{IsBase, IsInIdOrder, empty_base, fate_in, kept_of};
+ghost use Rattle.mk_words.specs.Bases.{IsBase, IsInIdOrder, empty_base, fate_in, kept_of};
 
 use crate::{Base, Fated};
 use mk_trim::Kept;
 use mk_txn::{Marks, NoMemory, Outcome, TxnId};
 use std::alloc::Global;
-
-impl Fated {
-    pub(crate) fn copy(&self) -> Result<Fated, NoMemory>
-        ensures { IfOk result (λ fated. fated ≡ self.now) }
-    {
-        Ok(Fated {
-            txn: self.txn.copy()?,
-            outcome: self.outcome,
-        })
-    }
-}
 
 impl Base {
     /// No transactions, and all marks 0.

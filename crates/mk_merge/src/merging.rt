@@ -5,10 +5,10 @@ ghost use Rattle.mk_txn.specs.Outcomes.{is_commit};
 ghost use Rattle.mk_txn.specs.Transactions.{AreCoherent};
 ghost use Rattle.mk_quorum.specs.Sizes.{hint_of};
 ghost use Rattle.mk_quorum.specs.Slots.{passes};
-ghost use Rattle.mk_merge.specs.Bases.{fated as is_fated};
-ghost use Rattle.mk_merge.specs.Merging.{ok_reports as count_of_oks, taken, fate_by};
-ghost use Rattle.mk_merge.specs.Adding.{entered_txns, entered_fate as is_entered_fate, additions};
-ghost use Rattle.mk_merge.specs.Keepings.{handed_in, raised_marks};
+ghost use Rattle.mk_words.specs.Bases.{fated as is_fated};
+ghost use Rattle.mk_words.specs.Merging.{ok_reports as count_of_oks, taken, fate_by};
+ghost use Rattle.mk_merge_laws.specs.Adding.{entered_txns, entered_fate as is_entered_fate, additions, raised_marks};
+ghost use Rattle.mk_merge.specs.Keepings.{handed_in};
 
 use crate::clashing::Commits;
 use crate::handing::{Handed, hand_in};

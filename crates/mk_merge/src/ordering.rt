@@ -2,13 +2,13 @@
 ghost use Rattle.std.specs.Prelude.{◌≡◌, ◌++◌, map, filter, IfOk, OnOk};
 ghost use Rattle.mk_txn.specs.Transactions.{AreCoherent};
 ghost use Rattle.mk_lists.specs.Among.{AllDistinct};
-ghost use Rattle.mk_merge.specs.Bases.{in_id_order, in_stamp_order as is_in_stamp_order};
-ghost use Rattle.mk_merge.specs.Adding.{is_new as is_new_to, entered_txns, new_txns as are_new};
+ghost use Rattle.mk_words.specs.Bases.{in_id_order, in_stamp_order as is_in_stamp_order};
+ghost use Rattle.mk_merge_laws.specs.Adding.{is_new as is_new_to, entered_txns, new_txns as are_new};
 
 use crate::handing::Handed;
-use mk_record::Entry;
 use mk_trim::Kept;
 use mk_txn::{Known, NoMemory, Stamp, Txn, TxnId};
+use mk_words::Entry;
 use std::alloc::Global;
 use std::collections::BTreeMap;
 

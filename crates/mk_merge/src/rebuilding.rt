@@ -3,9 +3,9 @@ ghost use Rattle.std.specs.Prelude.{◌≡◌, not, replicate, IfOk};
 ghost use Rattle.std.specs.List.{list_all};
 ghost use Rattle.mk_txn.specs.Stamps.{is_before};
 ghost use Rattle.mk_txn.specs.LatestWrites.{after_writes};
-ghost use Rattle.mk_merge.specs.Bases.{commits_in};
-ghost use Rattle.mk_merge.specs.Rebuilding.{rebuilt, fits_base};
-ghost use Rattle.mk_merge.specs.Lefts.{nothing_left, after_reads, after_commit, left_by, AreWritten, AreRead, AreLeft, AreRebuilt};
+ghost use Rattle.mk_words.specs.Bases.{commits_in};
+ghost use Rattle.mk_words.specs.Rebuilding.{rebuilt, fits_base};
+ghost use Rattle.mk_merge_laws.specs.Lefts.{nothing_left, after_reads, after_commit, left_by, AreWritten, AreRead, AreLeft, AreRebuilt};
 
 use crate::{Base, Fated};
 use mk_cell::Cell;
@@ -14,7 +14,7 @@ use std::alloc::Global;
 use std::marker::Model;
 
 /// What commits leave at a key: its latest write, and the greatest stamp of a read.
-#[derive(Clone, Copy, Debug)]
+#[derive(Clone, Copy)]
 pub struct Left {
     value: Value,
     wts: Stamp,
@@ -22,7 +22,7 @@ pub struct Left {
 }
 
 impl Model for Left {
-    ghost use Rattle.mk_merge.specs.Lefts.{LeftState};
+    ghost use Rattle.mk_merge_laws.specs.Lefts.{LeftState};
 
     ghost Value = { LeftState };
 
@@ -32,7 +32,7 @@ impl Model for Left {
 }
 
 impl Left {
-    ghost use Rattle.mk_merge.specs.Lefts.{nothing_left, with_write, with_read, after_commit, cell_left};
+    ghost use Rattle.mk_merge_laws.specs.Lefts.{nothing_left, with_write, with_read, after_commit, cell_left};
 
     /// What no commit leaves: the number 0 at stamp 0.0, and no read.
     pub fn nothing() -> Left

@@ -2,13 +2,13 @@
 ghost use Rattle.std.specs.Prelude.{◌≡◌, ◌==◌, find, option_and_then, option_copied};
 ghost use Rattle.mk_txn.specs.Outcomes.{is_ok_vote, higher as are_higher};
 ghost use Rattle.mk_quorum.specs.Slots.{passes};
-ghost use Rattle.mk_merge.specs.Merging.{reported as is_reported, reports, first_last as is_first_last, highest_accepted as is_highest_accepted, ok_reports as count_of_oks};
-ghost use Rattle.mk_merge.specs.Adding.{entered_fate as is_entered_fate};
+ghost use Rattle.mk_words.specs.Merging.{reported as is_reported, reports, first_last as is_first_last, highest_accepted as is_highest_accepted, ok_reports as count_of_oks};
+ghost use Rattle.mk_merge_laws.specs.Adding.{entered_fate as is_entered_fate};
 
 use crate::handing::Handed;
 use mk_quorum::Size;
-use mk_record::Entry;
 use mk_txn::{Accepted, Outcome, TxnId, Vote};
+use mk_words::Entry;
 
 // What the replica of this number hands in.
 fn promise_of<'a, 'b>(promises: &'b [Handed<'a>], r: u32) -> Option<&'b Handed<'a>>

@@ -9,12 +9,12 @@ use Rattle.mk_txn.specs.declared.ReadItem.{ReadItem}
 use Rattle.mk_txn.specs.declared.WriteItem.{WriteItem}
 use Rattle.mk_txn.specs.Outcomes.{is_commit}
 use Rattle.mk_txn.specs.LatestWrites.{after_writes}
-use Rattle.mk_cell.specs.Cells.{CellView}
-use Rattle.mk_merge.specs.declared.Fated.{Fated}
-use Rattle.mk_merge.specs.Bases.{commits_in}
-use Rattle.mk_merge.specs.Lefts.{LeftState, with_write, with_read, after_reads, after_commit, left_by, cell_left}
-use Rattle.mk_merge.proofs.ListLaws.{drop-at}
+use Rattle.mk_words.specs.Cells.{CellView}
+use Rattle.mk_words.specs.declared.Fated.{Fated}
+use Rattle.mk_words.specs.Bases.{commits_in}
+use Rattle.mk_merge_laws.specs.Lefts.{LeftState, with_write, with_read, after_reads, after_commit, left_by, cell_left}
 use Rattle.mk_snap.specs.Snapshots.{left_at, AreCells}
+use Rattle.mk_lists.proofs.Places.{drop_read}
 
 swapped : (a b : ℕ) → (a == b) ≡ (b == a)
 swapped a b = grind (arith, nat_tests)
@@ -34,7 +34,7 @@ written-next stamp items i item begun old new within is made h key =
     made key ∙ ap (λ (b : Bool). cond b (with_write stamp item.value (left_at key old)) (left_at key old)) (swapped key item.key) in (
       ap (λ (l : LeftState). after_writes key stamp l.latest (drop (i + 1) items)) here
           ∙ latest (item.key == key)
-          ∙ sym (ap (after_writes key stamp (left_at key old).latest) (drop-at items i item within is))
+          ∙ sym (ap (after_writes key stamp (left_at key old).latest) (drop_read items i item within is))
           ∙ (h key).0,
       ap (λ (l : LeftState). l.rts) here ∙ rts (item.key == key) ∙ (h key).1,
     )
@@ -71,7 +71,7 @@ read-next stamp items i item begun old new within is made h key =
     made key ∙ ap (λ (b : Bool). cond b (with_read stamp (left_at key old)) (left_at key old)) (swapped key item.key) in (
       ap (λ (l : LeftState). after_reads key stamp l.rts (drop (i + 1) items)) here
           ∙ rts (item.key == key)
-          ∙ sym (ap (after_reads key stamp (left_at key old).rts) (drop-at items i item within is))
+          ∙ sym (ap (after_reads key stamp (left_at key old).rts) (drop_read items i item within is))
           ∙ (h key).0,
       ap (λ (l : LeftState). l.latest) here ∙ latest (item.key == key) ∙ (h key).1,
     )
@@ -99,37 +99,4 @@ read-ends stamp items all i begun lefts past same h key =
 abbrev pub ComesToAdded : List Fated → ℕ → List (ℕ × LeftState) → List (ℕ × LeftState) → Type 0
 ComesToAdded list i begun lefts = (key : ℕ) → left_by key (left_at key lefts) (commits_in (drop i list)) ≡ left_by key (left_at key begun) (commits_in list)
 
-pub added-next : (list : List Fated) (i : ℕ) (f : Fated) (begun old new : List (ℕ × LeftState)) → i < length list → f ≡ get_or list i f → is_commit f.outcome ≡ true
-    → ((key : ℕ) → left_at key new ≡ after_commit key f.txn (left_at key old)) → ComesToAdded list i begun old → ComesToAdded list (i + 1) begun new
-added-next list i f begun old new within is commit made h key =
-    ap (λ (l : LeftState). left_by key l (commits_in (drop (i + 1) list))) (made key)
-    ∙ ap (λ (b : Bool). left_by key (left_at key old) (cond b (f.txn ∷ commits_in (drop (i + 1) list)) (commits_in (drop (i + 1) list)))) (sym commit)
-    ∙ ap (λ (fs : List Fated). left_by key (left_at key old) (commits_in fs)) (sym (drop-at list i f within is))
-    ∙ h key
-
-pub added-skip : (list : List Fated) (i : ℕ) (f : Fated) (begun lefts : List (ℕ × LeftState)) → i < length list → f ≡ get_or list i f → is_commit f.outcome ≡ false
-    → ComesToAdded list i begun lefts → ComesToAdded list (i + 1) begun lefts
-added-skip list i f begun lefts within is abort h key =
-    ap (λ (b : Bool). left_by key (left_at key lefts) (cond b (f.txn ∷ commits_in (drop (i + 1) list)) (commits_in (drop (i + 1) list)))) (sym abort)
-    ∙ ap (λ (fs : List Fated). left_by key (left_at key lefts) (commits_in fs)) (sym (drop-at list i f within is))
-    ∙ h key
-
-pub added-ends : (list : List Fated) (i : ℕ) (begun lefts : List (ℕ × LeftState)) → length list ≤ i → ComesToAdded list i begun lefts → (key : ℕ) → left_at key lefts ≡ left_by key (left_at key begun) (commits_in list)
-added-ends list i begun lefts past h key = sym (ap (λ (fs : List Fated). left_by key (left_at key lefts) (commits_in fs)) (drop_all i list past)) ∙ h key
-
 -- ---- cells
-
-pub cells-none : (lefts : List (ℕ × LeftState)) (cells : List CellView) → cells ≡ [] → AreCells lefts 0 cells
-cells-none lefts cells is = record { all = ap length is; each = λ key d within. absurd (omega (arith, within)) }
-
-pub cells-next : (lefts : List (ℕ × LeftState)) (count : ℕ) (old new : List CellView) (cell : CellView) → cell.state ≡ cell_left (left_at count lefts) → new ≡ old ++ cell ∷ [] → AreCells lefts count old → AreCells lefts (count + 1) new
-cells-next lefts count old new cell made pushed h = subst (AreCells lefts (count + 1)) (sym pushed) (record {
-  all = let long = h.all in omega (arith, length-append old (cell ∷ []), long);
-  each = λ key d inside. dite (dec_lt key count)
-      (λ lt. let long = h.all in let here : key < length old = omega (arith, lt, long) in
-      ap (λ (c : CellView). c.state) (get_or_append_left old (cell ∷ []) d key here) ∙ h.each key d lt)
-      (λ ge. let long = h.all in
-      let last : count ≡ key = omega (arith, ge, inside) in
-      let end : length old ≡ key = omega (arith, ge, inside, long) in
-      ap (λ (c : CellView). c.state) (get_or_push old cell d key end) ∙ made ∙ ap (λ k. cell_left (left_at k lefts)) last);
-})

@@ -1,4 +1,2 @@
 pub mod LeftsLaws
 pub mod SnapLaws
-pub mod Asked
-pub mod TablesLaws

@@ -1,31 +1,25 @@
 -- Snapshots that stand for bases: what is merged of them stands for what is merged of the bases.
-use Rattle.std.proofs.Common.{◌≡◌, ℕ, sym, ap, subst, ◌∙◌, List, [], ◌∷◌, ◌++◌, map, Some}
+use Rattle.std.proofs.Common.{◌≡◌, ℕ, sym, ap, subst, ◌∙◌, List, [], ◌∷◌, ◌++◌, map, Some, Result, Ok, Err, IfOk}
 use Rattle.std.specs.Prelude.{slice_get}
 use Rattle.std.specs.Borrow.{Bor}
 use Rattle.mk_lists.specs.Among.{Among, Among-append_left, Among-append_right}
 use Rattle.mk_txn.specs.MarkMaps.{MarkMap, IsMarkMap}
-use Rattle.mk_cell.specs.Cells.{CellView}
-use Rattle.mk_trim.specs.KeptOutcomes.{covered_by}
+use Rattle.mk_words.specs.Cells.{CellView}
+use Rattle.mk_words.specs.KeptOutcomes.{covered_by}
 use Rattle.mk_merge.specs.declared.Promise.{Promise}
-use Rattle.mk_merge.specs.declared.Fated.{Fated}
-use Rattle.mk_merge.specs.Bases.{BaseState, IsInIdOrder, kept_of, commits_in, empty_base}
-use Rattle.mk_merge.specs.Promises.{PromiseState, base_of}
-use Rattle.mk_merge.specs.Lefts.{cell_left, AreRebuilt}
-use Rattle.mk_merge.specs.Merging.{merged_from}
-use Rattle.mk_merge.specs.Adding.{entered_txns, additions, with_fated, put_fates, AreCounted}
-use Rattle.mk_merge.specs.Keepings.{Stand, handed_in, raised_marks}
-use Rattle.mk_merge.proofs.Members.{Among-mapping}
-use Rattle.mk_merge.proofs.StandLaws.{bare, stand-bare, handed-now}
-use Rattle.mk_merge.proofs.AddingLaws.{IsGiven, order-with, additions-from}
-use Rattle.mk_merge.proofs.MergedLaws.{more-is, more-order, more-apart, merged-list, marks-are}
-use Rattle.mk_merge.proofs.BaseWith.{AreFresh, fresh-from, kept-merged, rebuilt-with}
+use Rattle.mk_words.specs.declared.Fated.{Fated}
+use Rattle.mk_words.specs.Bases.{BaseState, IsInIdOrder, kept_of, commits_in, empty_base}
+use Rattle.mk_words.specs.Promises.{PromiseState, base_of}
+use Rattle.mk_merge_laws.specs.Lefts.{cell_left, AreRebuilt}
+use Rattle.mk_words.specs.Merging.{merged_from}
+use Rattle.mk_merge_laws.specs.Adding.{entered_txns, additions, with_fated, put_fates, AreCounted, raised_marks, bare}
+use Rattle.mk_merge.specs.Keepings.{Stand, handed_in}
+use Rattle.mk_merge.specs.Standing.{stand-bare, handed-now}
+use Rattle.mk_merge_laws.proofs.Bare.{added-bare, marks-bare}
+use Rattle.mk_merge_laws.proofs.Adding.{IsAddition, AreApart, order-with, added-in_order, added-apart, added-whole, added-from}
+use Rattle.mk_merge_laws.proofs.BaseWith.{AreFresh, fresh-from, kept-merged, rebuilt-with}
+use Rattle.mk_lists.proofs.Members.{Among-map}
 use Rattle.mk_snap.specs.Snapshots.{SnapState, SnapStands, AreAdded, AreCells, left_at}
-
-pub stands-empty : (snap : SnapState) → snap.kept ≡ record { outcomes = []; marks = [] } → snap.lefts ≡ [] → SnapStands snap empty_base
-stands-empty snap kept lefts = record {
-  is_base = record { in_order = tt; marked = tt };
-  stands = record { outcomes = kept; cells = λ key. ap (λ ls. cell_left (left_at key ls)) lefts };
-}
 
 -- the bases that promises stand for begin with what the first promise's snapshot stands for
 pub first-stands : (ps : List (Bor (Promise SnapState))) (p : Bor (Promise SnapState)) (ss : List PromiseState) → Some p ≡ slice_get ps 0 → Stand SnapState SnapStands (map (λ p. p.now) ps) ss → SnapStands p.now.base (base_of ss)
@@ -53,31 +47,27 @@ stands-with f epoch hs ss old new more marks is counted h made marked fits kept 
     same : old.kept ≡ kept_of (base_of ss)
     same = h.stands.outcomes
 
-    given : IsGiven ss
-    given = record { in_order = h.is_base.in_order; counted = counted }
+    added : IsAddition f epoch ss more
+    added = record { given = record { in_order = h.is_base.in_order; counted = counted }; made = added-bare f epoch hs ss old.kept more is same made }
 
     in_order : IsInIdOrder more
-    in_order = more-order f epoch hs ss old.kept more is same made
+    in_order = added-in_order f epoch ss more added
 
-    apart : Rattle.mk_merge.proofs.AddingLaws.AreApart more (base_of ss).list
-    apart = more-apart f epoch hs ss old.kept more is given same made
+    apart : AreApart more (base_of ss).list
+    apart = added-apart f epoch ss more added
 
     raised : marks ≡ raised_marks (base_of ss).marks ss
-    raised = marks-are hs ss old.kept marks is same marked
+    raised = marks-bare hs ss old.kept marks is same marked
 
     fresh : AreFresh more (base_of ss).list
     fresh = fresh-from (map (λ (g : Fated). g.txn) (base_of ss).list ++ entered_txns ss) more (base_of ss).list counted.coherent
-        (λ g a. Among-append_right g.txn (map (λ (x : Fated). x.txn) (base_of ss).list) (entered_txns ss)
-        (additions-from f epoch (kept_of (base_of ss)) ss g (subst (λ (fs : List Fated). Among g fs) (more-is f epoch hs ss old.kept more is same made) a)))
-        (λ g a. Among-append_left g.txn (map (λ (x : Fated). x.txn) (base_of ss).list) (entered_txns ss) (Among-mapping (λ (x : Fated). x.txn) g (base_of ss).list a))
+        (λ g a. Among-append_right g.txn (map (λ (x : Fated). x.txn) (base_of ss).list) (entered_txns ss) (added-from f epoch ss more g added a))
+        (λ g a. Among-append_left g.txn (map (λ (x : Fated). x.txn) (base_of ss).list) (entered_txns ss) (Among-map (λ (x : Fated). x.txn) g (base_of ss).list a))
         in_order apart
 
     whole : record { list = with_fated more (base_of ss).list; marks = marks } ≡ merged_from f epoch ss
-    whole = λ i. record { list = merged-list f epoch hs ss old.kept more is given same made i; marks = raised i }
+    whole = λ i. record { list = added-whole f epoch ss more added i; marks = raised i }
 
--- the cells of a snapshot are those of each base that it stands for
-pub cells-stand : (snap : SnapState) (base : BaseState) (keys : ℕ) (cells : List CellView) → AreCells snap.lefts keys cells → SnapStands snap base → AreRebuilt base keys cells
-cells-stand snap base keys cells h stand = record {
-  all = h.all;
-  each = λ key d within. h.each key d within ∙ stand.stands.cells key;
-}
+pub ok-both : {A E : Type 0} (r : Result A E) (P Q R : A → Type 0) → ((a : A) → P a → Q a → R a) → IfOk r P → IfOk r Q → IfOk r R
+ok-both (Ok a) P Q R f h k = f a h k
+ok-both (Err e) P Q R f h k = h

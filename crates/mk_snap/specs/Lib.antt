@@ -1,4 +1,2 @@
 -- Snapshots of bases.
 pub mod Snapshots
-pub mod Rows
-pub mod Tables

@@ -3,12 +3,12 @@ use Rattle.std.specs.Prelude.{◌≡◌, ◌<◌, ℕ, List, length, slice_index
 use Rattle.std.specs.Ordering.{nat_cmp}
 use Rattle.std.specs.Map.{lookup}
 use Rattle.std.specs.BTreeMap.{is_at}
-use Rattle.mk_trim.specs.KeptOutcomes.{KeptOutcomes}
+use Rattle.mk_words.specs.KeptOutcomes.{KeptOutcomes}
 use Rattle.mk_txn.specs.Transactions.{Transaction}
-use Rattle.mk_merge.specs.Bases.{BaseState, IsBase}
-use Rattle.mk_cell.specs.Cells.{CellView}
-use Rattle.mk_merge.specs.Rebuilding.{StandsFor}
-use Rattle.mk_merge.specs.Lefts.{LeftState, nothing_left, cell_left, left_by}
+use Rattle.mk_words.specs.Bases.{BaseState, IsBase}
+use Rattle.mk_words.specs.Cells.{CellView}
+use Rattle.mk_words.specs.Rebuilding.{StandsFor}
+use Rattle.mk_merge_laws.specs.Lefts.{LeftState, nothing_left, cell_left, left_by}
 
 -- what is kept, and the keys at which commits left something, with that
 pub record SnapState : Type 0 where

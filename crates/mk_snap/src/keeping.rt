@@ -2,9 +2,9 @@
 ghost use Rattle.std.specs.Prelude.{◌≡◌, ℕ, ◌<◌, not, length, slice_index_or, true, false, List, Err, IfOk, IfErr};
 ghost use Rattle.std.specs.List.{list_all};
 ghost use Rattle.mk_txn.specs.Stamps.{is_before};
-ghost use Rattle.mk_cell.specs.Cells.{CellView};
-ghost use Rattle.mk_merge.specs.Rebuilding.{fits_cells};
-ghost use Rattle.mk_merge.specs.Lefts.{cell_left};
+ghost use Rattle.mk_words.specs.Cells.{CellView};
+ghost use Rattle.mk_words.specs.Rebuilding.{fits_cells};
+ghost use Rattle.mk_merge_laws.specs.Lefts.{cell_left};
 ghost use Rattle.mk_snap.specs.Snapshots.{SnapStands, AreCells, left_at};
 
 use crate::Snap;

@@ -1,12 +1,13 @@
 //! What commits leave at keys.
 ghost use Rattle.std.specs.Prelude.{◌≡◌, ℕ, ◌==◌, if◌then◌else◌, IfOk, OnOk};
 ghost use Rattle.mk_txn.specs.LatestWrites.{after_writes};
-ghost use Rattle.mk_merge.specs.Bases.{commits_in};
-ghost use Rattle.mk_merge.specs.Lefts.{LeftState, with_write, with_read, after_reads, after_commit};
+ghost use Rattle.mk_words.specs.Bases.{commits_in};
+ghost use Rattle.mk_merge_laws.specs.Lefts.{LeftState, with_write, with_read, after_reads, after_commit};
 ghost use Rattle.mk_snap.specs.Snapshots.{left_at, AreAdded};
 
-use mk_merge::{Fated, Left};
+use mk_merge::Left;
 use mk_txn::{NoMemory, Outcome, Stamp, Txn, Value};
+use mk_words::Fated;
 use std::collections::BTreeMap;
 
 // What is left at the key.

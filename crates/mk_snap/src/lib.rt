@@ -4,8 +4,6 @@
 mod keeping;
 mod lefts;
 mod merging;
-#[cfg(test)]
-mod tests;
 
 use mk_merge::Left;
 use mk_trim::Kept;
@@ -14,7 +12,7 @@ use std::collections::BTreeMap;
 use std::marker::Model;
 
 /// What is asked of a base once it is made, without its transactions.
-#[derive(Drop, Debug)]
+#[derive(Drop)]
 pub struct Snap {
     alloc: Global,
     kept: Kept,

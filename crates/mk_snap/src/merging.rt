@@ -1,19 +1,20 @@
 //! The snapshot of a base that is made from promises.
 ghost use Rattle.std.specs.Prelude.{◌≡◌, List, true, false, Err, map, IfOk, IfErr, OnOk};
-ghost use Rattle.mk_trim.specs.KeptOutcomes.{covered_by};
-ghost use Rattle.mk_merge.specs.Bases.{commits_in};
-ghost use Rattle.mk_merge.specs.Promises.{PromiseState, ArePromises, can_merge};
-ghost use Rattle.mk_merge.specs.Merging.{merged, merged_from};
-ghost use Rattle.mk_merge.specs.Adding.{AreCounted, put_fates};
+ghost use Rattle.mk_words.specs.KeptOutcomes.{covered_by};
+ghost use Rattle.mk_words.specs.Bases.{commits_in};
+ghost use Rattle.mk_words.specs.Promises.{PromiseState, ArePromises, can_merge};
+ghost use Rattle.mk_words.specs.Merging.{merged, merged_from};
+ghost use Rattle.mk_merge_laws.specs.Adding.{AreCounted, put_fates};
 ghost use Rattle.mk_merge.specs.Keepings.{Stand, counted as is_count};
 ghost use Rattle.mk_snap.specs.Snapshots.{SnapState, SnapStands, AreAdded};
 
 use crate::Snap;
 use crate::lefts::add_commits;
-use mk_merge::{Addition, Fated, Keeping, MergeError, Promise, added, counted};
+use mk_merge::{Addition, Keeping, MergeError, Promise, added, counted};
 use mk_quorum::Size;
 use mk_trim::Kept;
 use mk_txn::NoMemory;
+use mk_words::Fated;
 use std::alloc::Global;
 
 // The outcomes of the list besides.

@@ -3,8 +3,8 @@ use Rattle.std.specs.List.Sorted.{IsBinarySearchResult}
 use Rattle.std.specs.declared.cmp.Ordering.TheVariants.{Equal}
 use Rattle.std.proofs.lemmas.List.Sorted.{answers_always}
 use Rattle.mk_txn.specs.Transactions.{id_cmp}
-use Rattle.mk_merge.specs.declared.Fated.{Fated}
-use Rattle.mk_merge.specs.Bases.{BaseState, fate_in}
+use Rattle.mk_words.specs.declared.Fated.{Fated}
+use Rattle.mk_words.specs.Bases.{BaseState, fate_in}
 use Rattle.mk_merge.proofs.ListedFate.{fate_in-there, fate_in-nowhere}
 use Rattle.mk_merge.proofs.Base.fate.Goals as goal
 

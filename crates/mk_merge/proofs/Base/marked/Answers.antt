@@ -1,6 +1,6 @@
 use Rattle.std.proofs.Common.{◌∙◌, ap, subst, sym}
-use Rattle.mk_trim.specs.KeptOutcomes.{covered_by}
-use Rattle.mk_merge.specs.Bases.{IsInIdOrder}
+use Rattle.mk_words.specs.KeptOutcomes.{covered_by}
+use Rattle.mk_words.specs.Bases.{IsInIdOrder}
 use Rattle.mk_merge.proofs.KeptLaws.{kept-begins}
 use Rattle.mk_merge.proofs.Base.marked.Goals as goal
 

@@ -1,7 +1,7 @@
 use Rattle.std.proofs.Common.{List, subst, sym}
-use Rattle.mk_merge.specs.declared.Fated.{Fated}
-use Rattle.mk_merge.specs.Bases.{commits_in}
-use Rattle.mk_merge.specs.Lefts.{LeftState, AreLeft}
+use Rattle.mk_words.specs.declared.Fated.{Fated}
+use Rattle.mk_words.specs.Bases.{commits_in}
+use Rattle.mk_merge_laws.specs.Lefts.{LeftState, AreLeft}
 use Rattle.mk_merge.proofs.CellsMade.{made-all}
 use Rattle.mk_merge.proofs.Base.rebuilt_cells.Goals as goal
 

@@ -1,8 +1,8 @@
 use Rattle.std.proofs.Common.{List, ap, ◌∙◌}
-use Rattle.mk_merge.specs.declared.Fated.{Fated}
-use Rattle.mk_merge.specs.Bases.{commits_in}
-use Rattle.mk_merge.specs.Lefts.{LeftState, nothing_left, left_by}
-use Rattle.mk_merge.proofs.LeftLaws.{rts-rebuilt}
+use Rattle.mk_words.specs.declared.Fated.{Fated}
+use Rattle.mk_words.specs.Bases.{commits_in}
+use Rattle.mk_merge_laws.specs.Lefts.{LeftState, nothing_left, left_by}
+use Rattle.mk_merge_laws.proofs.Lefts.{rts-rebuilt}
 use Rattle.mk_merge.proofs.Base.rts.Goals as goal
 
 pub returns : goal.returns

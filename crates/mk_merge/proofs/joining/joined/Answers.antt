@@ -3,8 +3,8 @@ use native.Mathlib.Decide.{dec_lt}
 use mathlib.Core.Logic.{dite}
 use Rattle.mk_lists.specs.Among.{Each}
 use Rattle.mk_txn.specs.Transactions.{id_before}
-use Rattle.mk_merge.specs.declared.Fated.{Fated}
-use Rattle.mk_merge.specs.Adding.{put_fated}
+use Rattle.mk_words.specs.declared.Fated.{Fated}
+use Rattle.mk_merge_laws.specs.Adding.{put_fated}
 use Rattle.mk_merge.proofs.JoiningLaws.{joined-more, joined-list, first-more, first-end, before-more, before-end}
 use Rattle.mk_merge.proofs.joining.joined.Goals as goal
 use Rattle.mk_merge.proofs.joining.joined.Goals.{then-at-list, else-at-list+then-next-more}

@@ -1,5 +1,5 @@
 use Rattle.std.proofs.Common.{◌≡◌, ◌≤◌, ◌+◌, ◌-◌, ◌++◌, length, drop}
-use Rattle.mk_merge.specs.Adding.{with_fated}
+use Rattle.mk_merge_laws.specs.Adding.{with_fated}
 use Rattle.mk_merge.proofs.joining.joined.Given as goal
 
 abbrev pub invariant-loop-at : goal.invariant-loop-at

@@ -1,9 +1,10 @@
 use Rattle.std.proofs.Common.{◌≡◌, map, ap, sym, ◌∙◌, subst}
-use Rattle.mk_merge.specs.Promises.{chosen, counting}
-use Rattle.mk_merge.specs.Merging.{merged_from}
-use Rattle.mk_merge.specs.Adding.{AreCounted}
+use Rattle.mk_words.specs.Promises.{chosen, counting}
+use Rattle.mk_words.specs.Merging.{merged_from}
+use Rattle.mk_merge_laws.specs.Adding.{AreCounted}
 use Rattle.mk_merge.specs.Keepings.{listed}
-use Rattle.mk_merge.proofs.StandLaws.{counting-listed, counting-asked, listed-now, listed-enough}
+use Rattle.mk_merge_laws.proofs.Counting.{counting-asked}
+use Rattle.mk_merge.proofs.StandLaws.{counting-listed, listed-now, listed-enough}
 use Rattle.mk_merge.proofs.joining.merge_listed.Goals as goal
 
 pub merge_counting-requires : goal.merge_counting-requires

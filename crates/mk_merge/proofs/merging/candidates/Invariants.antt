@@ -1,7 +1,7 @@
 use Rattle.std.specs.Prelude.{is_none, nat_le, ◌&&◌}
 use Rattle.mk_quorum.specs.Sizes.{hint_of}
-use Rattle.mk_merge.specs.Merging.{ok_reports}
-use Rattle.mk_merge.specs.Adding.{entered_fate}
+use Rattle.mk_words.specs.Merging.{ok_reports}
+use Rattle.mk_merge_laws.specs.Adding.{entered_fate}
 use Rattle.mk_merge.proofs.FateLaws.{ComesToFiltered}
 use Rattle.mk_merge.proofs.merging.candidates.Given as goal
 

@@ -1,6 +1,6 @@
 use Rattle.mk_txn.specs.Outcomes.{is_commit}
 use Rattle.mk_quorum.specs.Slots.{passes}
-use Rattle.mk_merge.specs.Adding.{entered_fate}
+use Rattle.mk_merge_laws.specs.Adding.{entered_fate}
 use Rattle.mk_merge.proofs.FateLaws.{ComesToPassing}
 use Rattle.mk_merge.proofs.merging.entered_commits.Given as goal
 

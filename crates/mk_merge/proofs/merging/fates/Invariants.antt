@@ -1,6 +1,6 @@
-use Rattle.mk_merge.specs.Bases.{fated}
-use Rattle.mk_merge.specs.Merging.{fate_by}
-use Rattle.mk_merge.specs.Adding.{entered_fate}
+use Rattle.mk_words.specs.Bases.{fated}
+use Rattle.mk_words.specs.Merging.{fate_by}
+use Rattle.mk_merge_laws.specs.Adding.{entered_fate}
 use Rattle.mk_merge.proofs.FateLaws.{ComesToFates}
 use Rattle.mk_merge.proofs.merging.fates.Given as goal
 

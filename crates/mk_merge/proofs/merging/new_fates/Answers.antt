@@ -3,12 +3,12 @@ use Rattle.std.specs.Prelude.{is_none, nat_le, ◌&&◌}
 use Rattle.mk_lists.specs.Among.{AllDistinct}
 use Rattle.mk_txn.specs.Transactions.{Transaction}
 use Rattle.mk_quorum.specs.Sizes.{hint_of}
-use Rattle.mk_merge.specs.Merging.{ok_reports}
-use Rattle.mk_merge.specs.Adding.{entered_fate, new_txns}
+use Rattle.mk_words.specs.Merging.{ok_reports}
+use Rattle.mk_merge_laws.specs.Adding.{entered_fate, new_txns}
 use Rattle.mk_merge.proofs.FateLaws.{nows}
 use Rattle.mk_merge.proofs.StampLaws.{stamps_of, stamps-now}
 use Rattle.mk_merge.proofs.StandLaws.{ok-each}
-use Rattle.mk_merge.proofs.AddingLaws.{new-distinct, additions-are}
+use Rattle.mk_merge_laws.proofs.Adding.{new-distinct, additions-are}
 use Rattle.mk_merge.proofs.merging.new_fates.Goals as goal
 
 pub in_stamp_order-requires : goal.in_stamp_order-requires

@@ -1,6 +1,6 @@
 use Rattle.std.proofs.Common.{◌≡◌, drop}
 use Rattle.mk_txn.specs.MarkMaps.{IsMarkMap}
-use Rattle.mk_merge.specs.Keepings.{raised_marks}
+use Rattle.mk_merge_laws.specs.Adding.{raised_marks}
 use Rattle.mk_merge.proofs.merging.new_marks.Given as goal
 
 abbrev pub invariant-loop-promise : goal.invariant-loop-promise

@@ -1,5 +1,5 @@
-use Rattle.mk_merge.specs.Adding.{is_new}
-use Rattle.mk_merge.proofs.AddingLaws.{entered-next}
+use Rattle.mk_merge_laws.specs.Adding.{is_new}
+use Rattle.mk_merge.proofs.OrderLaws.{entered-next}
 use Rattle.mk_merge.proofs.ordering.all_new.Goals as goal
 
 pub loop-promise-preserved : goal.loop-promise-preserved

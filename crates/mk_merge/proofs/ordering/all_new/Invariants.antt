@@ -1,5 +1,5 @@
 use Rattle.std.proofs.Common.{◌≡◌, ◌++◌, map, filter, drop}
-use Rattle.mk_merge.specs.Adding.{is_new, entered_txns}
+use Rattle.mk_merge_laws.specs.Adding.{is_new, entered_txns}
 use Rattle.mk_merge.proofs.ordering.all_new.Given as goal
 
 abbrev pub invariant-loop-promise : goal.invariant-loop-promise

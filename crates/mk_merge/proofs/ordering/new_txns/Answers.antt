@@ -1,7 +1,7 @@
 use Rattle.std.proofs.Common.{ap, sym, ◌∙◌, subst}
 use Rattle.mk_txn.specs.Transactions.{AreCoherent}
 use Rattle.mk_merge.proofs.FateLaws.{nows}
-use Rattle.mk_merge.proofs.AddingLaws.{new-coherent}
+use Rattle.mk_merge_laws.proofs.Adding.{new-coherent}
 use Rattle.mk_merge.proofs.ordering.new_txns.Goals as goal
 
 pub by_id-requires : goal.by_id-requires

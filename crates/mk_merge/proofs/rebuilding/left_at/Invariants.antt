@@ -1,6 +1,6 @@
 use Rattle.std.proofs.Common.{◌≡◌, drop}
-use Rattle.mk_merge.specs.Bases.{commits_in}
-use Rattle.mk_merge.specs.Lefts.{nothing_left, left_by}
+use Rattle.mk_words.specs.Bases.{commits_in}
+use Rattle.mk_merge_laws.specs.Lefts.{nothing_left, left_by}
 use Rattle.mk_merge.proofs.rebuilding.left_at.Given as goal
 
 -- with the commits that are left it comes to all of them

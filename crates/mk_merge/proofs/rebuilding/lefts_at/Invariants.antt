@@ -1,5 +1,5 @@
 use Rattle.std.proofs.Common.{drop}
-use Rattle.mk_merge.specs.Bases.{commits_in}
+use Rattle.mk_words.specs.Bases.{commits_in}
 use Rattle.mk_merge.proofs.EveryKey.{ComeToLeft}
 use Rattle.mk_merge.proofs.rebuilding.lefts_at.Given as goal
 

@@ -2,7 +2,7 @@ use Rattle.std.proofs.Common.{◌≡◌, ◌≤◌}
 use Rattle.mk_txn.specs.Outcomes.{is_ok_vote}
 use Rattle.mk_quorum.specs.Counts.{count_below}
 use Rattle.mk_quorum.specs.Slots.{passes}
-use Rattle.mk_merge.specs.Merging.{reported}
+use Rattle.mk_words.specs.Merging.{reported}
 use Rattle.mk_merge.proofs.reporting.ok_reports.Given as goal
 
 abbrev pub invariant-loop-r : goal.invariant-loop-r

@@ -1,10 +1,9 @@
 use Rattle.std.proofs.Common.{map, ap, ◌∙◌}
-use Rattle.mk_merge.specs.Keepings.{handed_in, raised_marks}
-use Rattle.mk_trim.specs.KeptOutcomes.{KeptOutcomes}
-use Rattle.mk_merge.specs.Adding.{additions}
-use Rattle.mk_merge.proofs.StandLaws.{ok-both}
-use Rattle.mk_merge.proofs.MergedLaws.{entered-coherent}
-use Rattle.mk_snap.proofs.SnapLaws.{handed-are, first-stands, stands-with}
+use Rattle.mk_merge.specs.Keepings.{handed_in}
+use Rattle.mk_words.specs.KeptOutcomes.{KeptOutcomes}
+use Rattle.mk_merge_laws.specs.Adding.{additions, raised_marks}
+use Rattle.mk_merge_laws.proofs.Adding.{entered-coherent}
+use Rattle.mk_snap.proofs.SnapLaws.{ok-both, handed-are, first-stands, stands-with}
 use Rattle.mk_snap.proofs.merging.merge_counting.Goals as goal
 
 pub added-requires : goal.added-requires

@@ -1,8 +1,9 @@
 use Rattle.std.proofs.Common.{◌≡◌, ℕ, List, map, ap, sym, ◌∙◌, subst}
 use Rattle.mk_merge.specs.declared.Promise.{Promise}
-use Rattle.mk_merge.specs.Promises.{PromiseState, chosen, counting}
+use Rattle.mk_words.specs.Promises.{PromiseState, chosen, counting}
 use Rattle.mk_merge.specs.Keepings.{Stand, counting_of, chosen_of}
-use Rattle.mk_merge.proofs.StandLaws.{stand-counting, counting-asked, stand-enough}
+use Rattle.mk_merge.specs.Standing.{stand-counting, stand-enough}
+use Rattle.mk_merge_laws.proofs.Counting.{counting-asked}
 use Rattle.mk_snap.specs.Snapshots.{SnapState, SnapStands}
 use Rattle.mk_snap.proofs.merging.merge_snaps.Goals as goal
 

@@ -1,5 +1,5 @@
 use Rattle.std.proofs.Common.{◌≡◌, drop}
-use Rattle.mk_merge.specs.Adding.{put_fates}
+use Rattle.mk_merge_laws.specs.Adding.{put_fates}
 use Rattle.mk_snap.proofs.merging.put_all.Given as goal
 
 -- with those that are left it comes to all of them

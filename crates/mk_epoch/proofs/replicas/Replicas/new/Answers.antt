@@ -3,7 +3,7 @@ use Rattle.mk_quorum.specs.Sizes.{members}
 use Rattle.mk_lists.specs.Among.{Each, Each-append}
 use Rattle.mk_epoch.specs.declared.replica.Replica.{Replica}
 use Rattle.mk_epoch.specs.Changes.{ChangeView}
-use Rattle.mk_epoch.specs.EpochState.{first_replica, first_epochs}
+use Rattle.mk_model.specs.EpochState.{first_replica, first_epochs}
 use Rattle.mk_epoch.specs.Standing.{ReplicaStands, StandsFor, IsKept}
 use Rattle.mk_epoch.proofs.RowLaws.{length-append}
 use Rattle.mk_epoch.proofs.StandingLaws.{all_first, first_stands}

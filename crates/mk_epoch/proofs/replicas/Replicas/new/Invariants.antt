@@ -1,6 +1,6 @@
 use Rattle.std.proofs.Common.{◌≡◌, length}
 use Rattle.mk_lists.specs.Among.{Each}
-use Rattle.mk_epoch.specs.EpochState.{first_replica}
+use Rattle.mk_model.specs.EpochState.{first_replica}
 use Rattle.mk_epoch.specs.Standing.{ReplicaStands}
 use Rattle.mk_epoch.proofs.replicas.Replicas.new.Given as goal
 

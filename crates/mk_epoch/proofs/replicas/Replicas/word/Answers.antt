@@ -1,6 +1,6 @@
 use Rattle.std.proofs.Common.{ap, sym, ◌∙◌, Some}
 use Rattle.std.specs.Prelude.{option_map}
-use Rattle.mk_epoch.specs.EpochState.{ReplicaState}
+use Rattle.mk_model.specs.EpochState.{ReplicaState}
 use Rattle.mk_epoch.proofs.StandingLaws.{all_at}
 use Rattle.mk_epoch.proofs.AnswerLaws.{word_of}
 use Rattle.mk_epoch.proofs.replicas.Replicas.word.Goals as goal

@@ -1,6 +1,6 @@
 use Rattle.std.proofs.Common.{ap, sym, ◌∙◌, subst}
-use Rattle.mk_merge.specs.Promises.{ArePromises, can_merge}
-use Rattle.mk_merge.specs.Merging.{merged}
+use Rattle.mk_words.specs.Promises.{ArePromises, can_merge}
+use Rattle.mk_words.specs.Merging.{merged}
 use Rattle.mk_merge.proofs.StandLaws.{stand-listed, ok-each}
 use Rattle.mk_merge.proofs.keeping.BaseKeeping.merge.Goals as goal
 

@@ -1,5 +1,5 @@
 use Rattle.std.proofs.Common.{◌≡◌, drop}
-use Rattle.mk_merge.specs.Lefts.{after_reads}
+use Rattle.mk_merge_laws.specs.Lefts.{after_reads}
 use Rattle.mk_merge.proofs.rebuilding.Left.add_reads.Given as goal
 
 -- with the reads that are left it comes to all of them
