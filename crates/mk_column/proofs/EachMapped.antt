@@ -17,7 +17,8 @@ module _ {X : Type 0} (f : X → X) where
   first_mapped-next (suc n) [] d = refl
   first_mapped-next (suc n) (x ∷ xs) d = ap (λ ys. f x ∷ ys) (first_mapped-next n xs d)
 
-  pub first_mapped-step : (n : ℕ) (xs ys : List X) (d new : X) → ys ≡ first_mapped f n xs → new ≡ f (get_or ys n d) → slice_set ys n new ≡ first_mapped f (n + 1) xs
+  pub first_mapped-step : (n : ℕ) (xs ys : List X) (d new : X) → ys ≡ first_mapped f n xs → new ≡ f (get_or ys n d)
+      → slice_set ys n new ≡ first_mapped f (n + 1) xs
   first_mapped-step n xs ys d new same is =
       ap (slice_set ys n) is
       ∙ subst (λ zs. slice_set zs n (f (get_or zs n d)) ≡ first_mapped f (n + 1) xs) (sym same) (first_mapped-next n xs d ∙ ap (λ k. first_mapped f k xs) (sym (add-one n)))
@@ -30,11 +31,6 @@ module _ {X : Type 0} (f : X → X) where
   pub first_mapped-end : (n : ℕ) (xs ys : List X) → ys ≡ first_mapped f n xs → n ≡ length xs → ys ≡ map f xs
   first_mapped-end n xs ys same is = same ∙ ap (λ k. first_mapped f k xs) is ∙ first_mapped-all xs
 
--- what keeps the keys of members keeps the list of keys
-pub map-keeps : {X K : Type 0} (key : X → K) (f : X → X) → ((x : X) → key (f x) ≡ key x) → (xs : List X) → map key (map f xs) ≡ map key xs
-map-keeps key f keeps [] = refl
-map-keeps key f keeps (x ∷ xs) = ap (λ k. k ∷ map key (map f xs)) (keeps x) ∙ ap (λ ks. key x ∷ ks) (map-keeps key f keeps xs)
-
 -- a map of a map
 pub map-both : {X Y Z : Type 0} (g : Y → Z) (f : X → Y) (h : X → Z) → ((x : X) → g (f x) ≡ h x) → (xs : List X) → map g (map f xs) ≡ map h xs
 map-both g f h same [] = refl
@@ -43,32 +39,3 @@ map-both g f h same (x ∷ xs) = ap (λ z. z ∷ map g (map f xs)) (same x) ∙ 
 pub map-replicate : {X Y : Type 0} (f : X → Y) (n : ℕ) (x : X) → map f (replicate n x) ≡ replicate n (f x)
 map-replicate f zero x = refl
 map-replicate f (suc n) x = ap (λ ys. f x ∷ ys) (map-replicate f n x)
-
--- what each member has, each image has where the function turns it so
-pub Each-map : {X Y : Type 0} (P : X → Type 0) (Q : Y → Type 0) (f : X → Y) → ((x : X) → P x → Q (f x)) → (xs : List X) → Each P xs → Each Q (map f xs)
-Each-map P Q f step [] h = tt
-Each-map P Q f step (x ∷ xs) h = (step x h.0, Each-map P Q f step xs h.1)
-
-pub map-take_next : {X Y : Type 0} (f : X → Y) (n : ℕ) (xs : List X) (d : X) → n < length xs → map f (take (suc n) xs) ≡ map f (take n xs) ++ f (get_or xs n d) ∷ []
-map-take_next f zero [] d h = absurd (omega arith)
-map-take_next f zero (x ∷ xs) d h = refl
-map-take_next f (suc n) [] d h = absurd (omega arith)
-map-take_next f (suc n) (x ∷ xs) d h = ap (λ ys. f x ∷ ys) (map-take_next f n xs d (omega arith))
-
--- lists with one more at the end are equal only where the lists before are
-pub fronts-same : {X : Type 0} (xs ys : List X) (x y : X) → xs ++ x ∷ [] ≡ ys ++ y ∷ [] → xs ≡ ys
-fronts-same [] [] x y e = refl
-fronts-same {X = X} [] (z ∷ ys) x y e = absurd (not_end ys (cc e))
-  where
-    not_end : (all : List X) → [] ≡ all ++ y ∷ [] → ⊥
-    not_end [] k = cc k
-    not_end (w ∷ all) k = cc k
-fronts-same {X = X} (z ∷ xs) [] x y e = absurd (not_end xs (cc e))
-  where
-    not_end : (all : List X) → all ++ x ∷ [] ≡ [] → ⊥
-    not_end [] k = cc k
-    not_end (w ∷ all) k = cc k
-fronts-same (z ∷ xs) (w ∷ ys) x y e =
-    let first : z ≡ w = cc e in
-    let rest : xs ++ x ∷ [] ≡ ys ++ y ∷ [] = cc e in
-    ap (λ v. v ∷ xs) first ∙ ap (λ vs. w ∷ vs) (fronts-same xs ys x y rest)

@@ -1,11 +1,7 @@
-pub mod Frames
-mod OneRun
-mod MovedRows
-mod MarkRows
 pub mod ReplicaLaws
 pub mod TableLaws
-pub mod TurnOrder
-pub mod NumberOrder
+pub mod ViewIds
+pub mod Numbers
 pub mod ColumnLaws
 pub mod StampLaws
 pub mod ReadingLaws

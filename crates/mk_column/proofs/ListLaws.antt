@@ -11,7 +11,8 @@ module _ {X : Type 0} (p : X → Bool) (f : X → X) where
   abbrev pub changed_member : X → X
   changed_member x = cond (p x) (f x) x
 
-  pub Each-turn : (P Q : X → Type 0) → ((x : X) → p x ≡ true → P x → Q (f x)) → ((x : X) → p x ≡ false → P x → Q x) → (xs : List X) → Each P xs → Each Q (change p f xs)
+  pub Each-turn : (P Q : X → Type 0) → ((x : X) → p x ≡ true → P x → Q (f x)) → ((x : X) → p x ≡ false → P x → Q x) → (xs : List X) → Each P xs
+      → Each Q (change p f xs)
   Each-turn P Q here other [] h = tt
   Each-turn P Q here other (x ∷ xs) h = (head (p x) refl, Each-turn P Q here other xs h.1)
     where
@@ -23,17 +24,22 @@ module _ {X : Type 0} (p : X → Bool) (f : X → X) where
   find-change q keeps [] = refl
   find-change q keeps (x ∷ xs) = by_test (p x) refl (find-change q keeps xs)
     where
-      by_found : (b : Bool) (y : X) → changed_member x ≡ y → find q (change p f xs) ≡ option_map changed_member (find q xs) → cond b (Some y) (find q (change p f xs)) ≡ option_map changed_member (cond b (Some x) (find q xs))
+      by_found : (b : Bool) (y : X) → changed_member x ≡ y → find q (change p f xs) ≡ option_map changed_member (find q xs)
+          → cond b (Some y) (find q (change p f xs)) ≡ option_map changed_member (cond b (Some x) (find q xs))
       by_found true y e ih = ap Some (sym e)
       by_found false y e ih = ih
 
-      by_test : (b : Bool) → p x ≡ b → find q (change p f xs) ≡ option_map changed_member (find q xs) → find q (cond b (f x) x ∷ change p f xs) ≡ option_map changed_member (find q (x ∷ xs))
+      by_test : (b : Bool) → p x ≡ b → find q (change p f xs) ≡ option_map changed_member (find q xs)
+          → find q (cond b (f x) x ∷ change p f xs) ≡ option_map changed_member (find q (x ∷ xs))
       by_test true e ih = ap (λ t. cond t (Some (f x)) (find q (change p f xs))) (keeps x) ∙ by_found (q x) (f x) (ap (λ t. cond t (f x) x) e) ih
       by_test false e ih = by_found (q x) x (ap (λ t. cond t (f x) x) e) ih
 
-  pub map-change : {Y : Type 0} (q : Y → Bool) (h : Y → Y) (k : X → Y) → ((x : X) → q (k x) ≡ p x) → ((x : X) → k (f x) ≡ h (k x)) → (xs : List X) → map k (change p f xs) ≡ change q h (map k xs)
+  pub map-change : {Y : Type 0} (q : Y → Bool) (h : Y → Y) (k : X → Y) → ((x : X) → q (k x) ≡ p x) → ((x : X) → k (f x) ≡ h (k x)) → (xs : List X)
+      → map k (change p f xs) ≡ change q h (map k xs)
   map-change q h k tests turns [] = refl
-  map-change q h k tests turns (x ∷ xs) = ap (λ y. y ∷ map k (change p f xs)) (by_test (p x) ∙ ap (λ t. cond t (h (k x)) (k x)) (sym (tests x))) ∙ ap (λ ys. cond (q (k x)) (h (k x)) (k x) ∷ ys) (map-change q h k tests turns xs)
+  map-change q h k tests turns (x ∷ xs) =
+      ap (λ y. y ∷ map k (change p f xs)) (by_test (p x) ∙ ap (λ t. cond t (h (k x)) (k x)) (sym (tests x)))
+      ∙ ap (λ ys. cond (q (k x)) (h (k x)) (k x) ∷ ys) (map-change q h k tests turns xs)
     where
       by_test : (b : Bool) → k (cond b (f x) x) ≡ cond b (h (k x)) (k x)
       by_test true = turns x
@@ -68,8 +74,3 @@ module _ {X : Type 0} (p : X → Bool) (f : X → X) where
 pub map-there : {X Y : Type 0} (f : X → Y) (o : Option X) → IsSome o → IsSome (option_map f o)
 map-there f None h = absurd (cc h)
 map-there f (Some x) h = refl
-
--- none is found after a change where none was
-pub none-from_map : {X Y : Type 0} (f : X → Y) (o : Option X) → option_map f o ≡ None → o ≡ None
-none-from_map f None e = refl
-none-from_map f (Some x) e = absurd (cc e)

@@ -1,21 +1,24 @@
 -- A client's mark by the settled attempts is its mark by its attempts.
-use Rattle.std.proofs.Common.{◌≡◌, ℕ, zero, suc, ◌+◌, ◌<◌, ◌≤◌, ◌^◌, Bool, true, false, cond, refl, sym, ap, ◌∙◌, ◌||◌, ◌&&◌, ◌==◌, arith, List, [], ◌∷◌, length, Option, Some, None}
+use Rattle.std.proofs.Common.{◌≡◌, ℕ, zero, suc, ◌+◌, ◌<◌, ◌≤◌, ◌^◌, Bool, true, false, cond, refl, sym, ap, subst, add-one, ◌∙◌, ◌||◌, ◌&&◌, ◌==◌, arith, List, [], ◌∷◌, length, Option, Some, None}
 use Rattle.std.specs.Prelude.{map, option_map, is_some}
 use Rattle.std.proofs.lemmas.Bool.{false≢true}
 use Rattle.std.proofs.lemmas.Bool.Decides.{nat_tests}
 use Rattle.std.proofs.lemmas.List.{length-map}
+use Rattle.mk_lists.proofs.EachMember.{Each-find}
+use Rattle.mk_lists.proofs.Lookups.{find-passes}
 use Rattle.mk_txn.specs.declared.TxnId.{TxnId}
 use Rattle.mk_txn.proofs.IdOrder.{same_id-tells}
 use Rattle.mk_quorum.specs.Slots.{passes}
 use Rattle.mk_quorum.specs.Counts.{count_below}
 use Rattle.mk_quorum.proofs.Counting.{count_below-same}
-use Rattle.mk_trim.specs.Settling.{all_upto, greatest_upto}
+use Rattle.mk_quorum.proofs.Slots.{is_some-passes}
+use Rattle.mk_words.specs.Settling.{all_upto, greatest_upto}
 use Rattle.mk_trim.specs.SettledAttempts.{SettledAttempts, IsMark, is_settled as is_kept_settled}
-use Rattle.mk_trim.proofs.MarkIsGreatest.{greatest_upto-mark}
-use Rattle.mk_column.specs.ColumnState.{is_settled, attempt_of, client_mark}
+use Rattle.mk_words.proofs.SettlingLaws.{greatest_upto-is}
+use Rattle.mk_model.specs.ColumnState.{is_settled, attempt_of, client_mark}
 use Rattle.mk_column.specs.AttemptsByCode.{BegunView, begun_of, is_begun, states_of}
 use Rattle.mk_column.specs.ColumnByCode.{Kept, AttemptFits, IsKept, column_of, learning_of_kept}
-use Rattle.mk_column.proofs.ColumnLaws.{attempt-found, Each-find, find-passes}
+use Rattle.mk_column.proofs.ColumnLaws.{attempt-found}
 
 -- the attempt of this client at this place
 abbrev pub at_place : ℕ → ℕ → TxnId
@@ -69,7 +72,8 @@ found-count client n (b ∷ all) = by_place (found-count client n all) b.state.i
 
     by_place : count_below n q ≤ length all → (seq : ℕ) → b.state.id.seq ≡ seq → count_below n p ≤ suc (length all)
     by_place more zero e =
-        let same : count_below n p ≡ count_below n q = count_below-same n p q (λ r lt. other r (let z : b.state.id.seq ≡ 0 = e in grind (arith, nat_tests, z))) in
+        let same : count_below n p ≡ count_below n q =
+        count_below-same n p q (λ r lt. other r (let z : b.state.id.seq ≡ 0 = e in grind (arith, nat_tests, z))) in
         omega (arith, same, more)
     by_place more (suc k) e =
         let less = count-one_more n p q k (λ r apart. other r (let s : b.state.id.seq ≡ suc k = e in grind (arith, nat_tests, s, apart))) in
@@ -85,15 +89,12 @@ all-counted (suc n) p h =
 greatest_upto-same : (p q : ℕ → Bool) → ((n : ℕ) → p (suc n) ≡ q (suc n)) → (most : ℕ) → greatest_upto p most ≡ greatest_upto q most
 greatest_upto-same p q h zero = refl
 greatest_upto-same p q h (suc most) =
-    ap (λ b. cond b (suc most) (greatest_upto p most)) (all-same (suc most)) ∙ ap (λ n. cond (all_upto q (suc most)) (suc most) n) (greatest_upto-same p q h most)
+    ap (λ b. cond b (suc most) (greatest_upto p most)) (all-same (suc most))
+    ∙ ap (λ n. cond (all_upto q (suc most)) (suc most) n) (greatest_upto-same p q h most)
   where
     all-same : (m : ℕ) → all_upto p m ≡ all_upto q m
     all-same zero = refl
     all-same (suc m) = ap (λ b. b && all_upto p m) (h m) ∙ ap (λ b. q (suc m) && b) (all-same m)
-
-passes-there : {X : Type 0} (t : X → Bool) (o : Option X) → passes t o ≡ true → is_some o ≡ true
-passes-there t None e = absurd (cc e)
-passes-there t (Some x) e = refl
 
 not_first : (n : ℕ) (b : Bool) → ((suc n == 0) || b) ≡ b
 not_first n b = let e : (suc n == 0) ≡ false = grind (arith, nat_tests) in ap (λ t. t || b) e
@@ -102,16 +103,19 @@ not_first n b = let e : (suc n == 0) ≡ false = grind (arith, nat_tests) in ap 
 settled-same : (f : ℕ) (kept : Kept) (ends : SettledAttempts) (client n : ℕ) → IsKept f kept ends
     → is_kept_settled ends (at_place client (suc n)) ≡ passes is_settled (attempt_of (column_of kept) (at_place client (suc n)))
 settled-same f kept ends client n h =
-    h.settled (at_place client (suc n)) ∙ not_first n _ ∙ sym (ap (passes is_settled) (attempt-found (at_place client (suc n)) kept.attempts) ∙ by_found (begun_of (at_place client (suc n)) kept.attempts))
+    h.settled (at_place client (suc n)) ∙ not_first n _
+    ∙ sym (ap (passes is_settled) (attempt-found (at_place client (suc n)) kept.attempts) ∙ by_found (begun_of (at_place client (suc n)) kept.attempts))
   where
     by_found : (o : Option BegunView) → passes is_settled (option_map (λ (b : BegunView). b.state) o) ≡ passes (λ (b : BegunView). is_settled b.state) o
     by_found None = refl
     by_found (Some b) = refl
 
 -- up to the mark each place is that of an attempt
-settled-there : (f : ℕ) (kept : Kept) (ends : SettledAttempts) (client mark n : ℕ) → IsKept f kept ends → IsMark ends client mark → n < mark → is_some (begun_of (at_place client (suc n)) kept.attempts) ≡ true
+settled-there : (f : ℕ) (kept : Kept) (ends : SettledAttempts) (client mark n : ℕ) → IsKept f kept ends → IsMark ends client mark → n < mark
+    → is_some (begun_of (at_place client (suc n)) kept.attempts) ≡ true
 settled-there f kept ends client mark n h is lt =
-    passes-there (λ (b : BegunView). is_settled b.state) (begun_of (at_place client (suc n)) kept.attempts) (sym (not_first n _) ∙ sym (h.settled (at_place client (suc n))) ∙ is.up_to (suc n) (omega (arith, lt)))
+    is_some-passes (λ (b : BegunView). is_settled b.state) (begun_of (at_place client (suc n)) kept.attempts)
+    (sym (not_first n _) ∙ sym (h.settled (at_place client (suc n))) ∙ is.up_to (suc n) (omega (arith, lt)))
 
 mark-room : (f : ℕ) (kept : Kept) (ends : SettledAttempts) (client mark : ℕ) → IsKept f kept ends → IsMark ends client mark → mark + 1 < 2 ^ 32
 mark-room f kept ends client zero h is = omega arith
@@ -120,12 +124,15 @@ mark-room f kept ends client (suc n) h is = by_found (begun_of (at_place client 
     by_found : (o : Option BegunView) → begun_of (at_place client (suc n)) kept.attempts ≡ o → suc n + 1 < 2 ^ 32
     by_found None e = absurd (false≢true (sym (ap is_some e) ∙ settled-there f kept ends client (suc n) n h is (omega arith)))
     by_found (Some b) e =
-        let fits = (Each-find (AttemptFits f kept.link (map learning_of_kept kept.learned)) (is_begun (at_place client (suc n))) kept.attempts b h.attempts e).seq in
-        let same : b.state.id ≡ at_place client (suc n) = same_id-tells b.state.id (at_place client (suc n)) (find-passes (is_begun (at_place client (suc n))) kept.attempts b e) in
+        let fits =
+        (Each-find (AttemptFits f kept.link (map learning_of_kept kept.learned)) (is_begun (at_place client (suc n))) kept.attempts b h.attempts e).seq in
+        let same : b.state.id ≡ at_place client (suc n) =
+        same_id-tells b.state.id (at_place client (suc n)) (find-passes (is_begun (at_place client (suc n))) kept.attempts b e) in
         let seq : b.state.id.seq ≡ suc n = ap (λ i. i.seq) same in
         omega (arith, fits, seq)
 
-pub client_mark-is : (f : ℕ) (kept : Kept) (ends : SettledAttempts) (client mark : ℕ) → IsKept f kept ends → IsMark ends client mark → client_mark (column_of kept) client ≡ mark
+pub client_mark-is : (f : ℕ) (kept : Kept) (ends : SettledAttempts) (client mark : ℕ) → IsKept f kept ends → IsMark ends client mark
+    → client_mark (column_of kept) client ≡ mark
 client_mark-is f kept ends client mark h is =
     let n = length (column_of kept).attempts in
     let p : ℕ → Bool = λ r. is_some (begun_of (at_place client (suc r)) kept.attempts) in
@@ -133,4 +140,6 @@ client_mark-is f kept ends client mark h is =
     let few : count_below mark p ≤ length kept.attempts = found-count client mark kept.attempts in
     let long : length (states_of kept.attempts) ≡ length kept.attempts = length-map kept.attempts (λ (b : BegunView). b.state) in
     sym (greatest_upto-same (λ seq. is_kept_settled ends (at_place client seq)) (λ seq. passes is_settled (attempt_of (column_of kept) (at_place client seq))) (λ k. settled-same f kept ends client k h) n)
-    ∙ greatest_upto-mark ends client mark n is (mark-room f kept ends client mark h is) (omega (arith, counted, few, long))
+    ∙ greatest_upto-is (λ seq. is_kept_settled ends (at_place client seq)) mark n is.up_to
+    (subst (λ k. is_kept_settled ends (at_place client k) ≡ false) (add-one mark) (is.ends (mark-room f kept ends client mark h is)))
+    (omega (arith, counted, few, long))

@@ -2,7 +2,7 @@
 use Rattle.std.proofs.Common.{◌≡◌, ◌<◌, ◌≤◌, ◌+◌, ◌^◌, ◌⊎◌, inl, inr, ℕ, suc, Bool, true, false, cond, not, refl, sym, ap, subst, ◌∙◌, arith, max, ◌&&◌, ◌||◌, ◌==◌, nat_lt, nat_le, List, [], ◌∷◌, ◌++◌, length, Option, Some, None}
 use Rattle.std.specs.Prelude.{find, option_map}
 use Rattle.std.specs.List.{list_any, list_all}
-use Rattle.std.proofs.lemmas.Bool.{false≢true}
+use Rattle.std.proofs.lemmas.Bool.{false≢true, and_parts, not-true}
 use Rattle.std.proofs.lemmas.Bool.Decides.{nat_tests}
 use Rattle.std.proofs.lemmas.Option.{none-some, same_Some}
 use Rattle.mk_txn.specs.declared.Stamp.{Stamp}
@@ -13,16 +13,8 @@ use Rattle.mk_txn.specs.declared.faults.TxnError.TheVariants.{NoMemory}
 use Rattle.mk_txn.specs.Stamps.{is_before, time_above_reads, fresh_time, next_stamp_of}
 use Rattle.mk_txn.specs.Transactions.{are_distinct, is_above_reads, read_keys, write_keys}
 use Rattle.mk_txn.specs.TxnFaults.{repeated_key, key_not_above, txn_fault}
-use Rattle.mk_column.specs.Conditions.{writes_fit}
+use Rattle.mk_model.specs.Conditions.{writes_fit}
 use Rattle.mk_column.specs.Readings.{may_join, ReadsFit}
-
-both : (a b : Bool) → (a && b) ≡ true → (a ≡ true) × (b ≡ true)
-both true b e = (refl, e)
-both false b e = absurd (false≢true e)
-
-not_true : (b : Bool) → not b ≡ true → b ≡ false
-not_true true e = absurd (false≢true e)
-not_true false e = refl
 
 -- ---- one read more
 
@@ -30,19 +22,23 @@ same_turned : (a b : ℕ) → (a == b) ≡ false → (b == a) ≡ false
 same_turned a b e = grind (arith, nat_tests, e)
 
 -- a key that is not among the reads is joined to different ones
-distinct-joined : (key : ℕ) (reads : List ReadItem) (item : ReadItem) → item.key ≡ key → list_any (λ (i : ReadItem). i.key == key) reads ≡ false → are_distinct (read_keys reads) ≡ true → are_distinct (read_keys (reads ++ item ∷ [])) ≡ true
+distinct-joined : (key : ℕ) (reads : List ReadItem) (item : ReadItem) → item.key ≡ key → list_any (λ (i : ReadItem). i.key == key) reads ≡ false
+    → are_distinct (read_keys reads) ≡ true → are_distinct (read_keys (reads ++ item ∷ [])) ≡ true
 distinct-joined key [] item is none e = refl
 distinct-joined key (x ∷ xs) item is none e =
-    let parts = both (not (list_any (λ y. y == x.key) (read_keys xs))) (are_distinct (read_keys xs)) e in
+    let parts = and_parts (not (list_any (λ y. y == x.key) (read_keys xs))) (are_distinct (read_keys xs)) e in
     let apart = neither (x.key == key) (list_any (λ (i : ReadItem). i.key == key) xs) none in
     let rest = distinct-joined key xs item is apart.1 parts.1 in
-    ap (λ b. not b && are_distinct (read_keys (xs ++ item ∷ []))) (not_among x.key xs (not_true _ parts.0) (ap (λ k. k == x.key) is ∙ same_turned x.key key apart.0)) ∙ rest
+    ap (λ b. not b && are_distinct (read_keys (xs ++ item ∷ [])))
+    (not_among x.key xs (not-true _ parts.0) (ap (λ k. k == x.key) is ∙ same_turned x.key key apart.0))
+    ∙ rest
   where
     neither : (a b : Bool) → (a || b) ≡ false → (a ≡ false) × (b ≡ false)
     neither false b k = (refl, k)
     neither true b k = absurd (false≢true (sym k))
 
-    not_among : (k : ℕ) (ys : List ReadItem) → list_any (λ y. y == k) (read_keys ys) ≡ false → (item.key == k) ≡ false → list_any (λ y. y == k) (read_keys (ys ++ item ∷ [])) ≡ false
+    not_among : (k : ℕ) (ys : List ReadItem) → list_any (λ y. y == k) (read_keys ys) ≡ false → (item.key == k) ≡ false
+        → list_any (λ y. y == k) (read_keys (ys ++ item ∷ [])) ≡ false
     not_among k [] before new = ap (λ b. b || false) new
     not_among k (y ∷ ys) before new =
         let two = neither (y.key == k) (list_any (λ z. z == k) (read_keys ys)) before in
@@ -58,10 +54,10 @@ few-joined reads item h = subst (λ n. n ≤ 16) (sym (one_more reads)) h
 -- reads that may take an item fit with it
 pub ReadsFit-joined : (reads : List ReadItem) (item : ReadItem) → may_join item.key reads ≡ true → ReadsFit reads → ReadsFit (reads ++ item ∷ [])
 ReadsFit-joined reads item room h =
-    let parts = both (not (list_any (λ (i : ReadItem). i.key == item.key) reads)) (nat_lt (length reads) 16) room in
+    let parts = and_parts (not (list_any (λ (i : ReadItem). i.key == item.key) reads)) (nat_lt (length reads) 16) room in
     record {
       few = few-joined reads item (below (length reads) parts.1);
-      distinct = distinct-joined item.key reads item refl (not_true _ parts.0) h.distinct;
+      distinct = distinct-joined item.key reads item refl (not-true _ parts.0) h.distinct;
     }
   where
     below : (n : ℕ) → nat_lt n 16 ≡ true → n < 16
@@ -74,28 +70,32 @@ above-all client time [] h = refl
 above-all client time (item ∷ items) h =
     let here : item.version.time < time = omega (arith, h) in
     let rest : time_above_reads items ≤ time = omega (arith, h) in
-    ap (λ b. (b || (item.version.time == time && nat_lt item.version.client client)) && is_above_reads (record { time = time; client = client }) items) (is_below item.version.time here) ∙ above-all client time items rest
+    ap (λ b. (b || (item.version.time == time && nat_lt item.version.client client)) && is_above_reads (record { time = time; client = client }) items)
+    (is_below item.version.time here)
+    ∙ above-all client time items rest
   where
     is_below : (a : ℕ) → a < time → nat_lt a time ≡ true
     is_below a k = grind (arith, nat_tests, k)
 
 -- the next stamp is above what was read
-pub next-above : (client last clock : ℕ) (reads : List ReadItem) (stamp : Stamp) → next_stamp_of client last clock reads ≡ Some stamp → is_above_reads stamp reads ≡ true
+pub next-above : (client last clock : ℕ) (reads : List ReadItem) (stamp : Stamp) → next_stamp_of client last clock reads ≡ Some stamp
+    → is_above_reads stamp reads ≡ true
 next-above client last clock reads stamp e = by_test (nat_lt (2 ^ 62) (fresh_time last clock reads)) e
   where
     by_test : (t : Bool) → cond t None (Some (record { time = fresh_time last clock reads; client = client })) ≡ Some stamp → is_above_reads stamp reads ≡ true
     by_test true k = absurd (none-some stamp k)
     by_test false k =
         let above : time_above_reads reads ≤ fresh_time last clock reads = omega arith in
-        subst (λ (s : Stamp). is_above_reads s reads ≡ true) (same_Some (record { time = fresh_time last clock reads; client = client }) stamp k) (above-all client (fresh_time last clock reads) reads above)
+        subst (λ (s : Stamp). is_above_reads s reads ≡ true) (same_Some (record { time = fresh_time last clock reads; client = client }) stamp k)
+        (above-all client (fresh_time last clock reads) reads above)
 
 -- ---- no fault
 
 none-repeated : (keys : List ℕ) → are_distinct keys ≡ true → repeated_key keys ≡ None
 none-repeated [] e = refl
 none-repeated (key ∷ keys) e =
-    let parts = both (not (list_any (λ later. later == key) keys)) (are_distinct keys) e in
-    ap (λ b. cond b (Some key) (repeated_key keys)) (not_true _ parts.0) ∙ none-repeated keys parts.1
+    let parts = and_parts (not (list_any (λ later. later == key) keys)) (are_distinct keys) e in
+    ap (λ b. cond b (Some key) (repeated_key keys)) (not-true _ parts.0) ∙ none-repeated keys parts.1
 
 none-late : (stamp : Stamp) (reads : List ReadItem) → is_above_reads stamp reads ≡ true → key_not_above stamp reads ≡ None
 none-late stamp [] e = refl
@@ -110,7 +110,8 @@ not_above : (n : ℕ) → n ≤ 16 → nat_lt 16 n ≡ false
 not_above n h = grind (arith, nat_tests, h)
 
 -- reads and writes that fit have no fault under a stamp above the reads
-pub none-faulty : (stamp : Stamp) (reads : List ReadItem) (writes : List WriteItem) → ReadsFit reads → is_above_reads stamp reads ≡ true → length writes ≤ 16 → are_distinct (write_keys writes) ≡ true → txn_fault stamp reads writes ≡ None
+pub none-faulty : (stamp : Stamp) (reads : List ReadItem) (writes : List WriteItem) → ReadsFit reads → is_above_reads stamp reads ≡ true → length writes ≤ 16
+    → are_distinct (write_keys writes) ≡ true → txn_fault stamp reads writes ≡ None
 none-faulty stamp reads writes fits above few distinct =
     let reads_few = not_above (length reads) fits.few in
     let writes_few = not_above (length writes) few in
@@ -120,16 +121,20 @@ none-faulty stamp reads writes fits above few distinct =
     simp (reads_few, writes_few, reads_once, writes_once, no_late)
 
 -- so that only memory fails
-pub only-memory : (fault : TxnError) (stamp : Stamp) (reads : List ReadItem) (writes : List WriteItem) → txn_fault stamp reads writes ≡ None → (fault ≡ NoMemory) ⊎ (txn_fault stamp reads writes ≡ Some fault) → fault ≡ NoMemory
+pub only-memory : (fault : TxnError) (stamp : Stamp) (reads : List ReadItem) (writes : List WriteItem) → txn_fault stamp reads writes ≡ None
+    → (fault ≡ NoMemory) ⊎ (txn_fault stamp reads writes ≡ Some fault) → fault ≡ NoMemory
 only-memory fault stamp reads writes none (inl e) = e
 only-memory fault stamp reads writes none (inr e) = absurd (none-some fault (sym none ∙ e))
 
 -- what the condition on the writes tells
 pub fit-few : (keys : ℕ) (writes : List WriteItem) → writes_fit keys writes ≡ true → length writes ≤ 16
-fit-few keys writes e = upto (length writes) (both (nat_le (length writes) 16) (are_distinct (write_keys writes)) (both (nat_le (length writes) 16 && are_distinct (write_keys writes)) _ e).0).0
+fit-few keys writes e =
+    upto (length writes)
+    (and_parts (nat_le (length writes) 16) (are_distinct (write_keys writes)) (and_parts (nat_le (length writes) 16 && are_distinct (write_keys writes)) _ e).0).0
   where
     upto : (n : ℕ) → nat_le n 16 ≡ true → n ≤ 16
     upto n k = grind (arith, nat_tests, k)
 
 pub fit-distinct : (keys : ℕ) (writes : List WriteItem) → writes_fit keys writes ≡ true → are_distinct (write_keys writes) ≡ true
-fit-distinct keys writes e = (both (nat_le (length writes) 16) (are_distinct (write_keys writes)) (both (nat_le (length writes) 16 && are_distinct (write_keys writes)) _ e).0).1
+fit-distinct keys writes e =
+    (and_parts (nat_le (length writes) 16) (are_distinct (write_keys writes)) (and_parts (nat_le (length writes) 16 && are_distinct (write_keys writes)) _ e).0).1

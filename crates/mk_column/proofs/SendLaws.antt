@@ -2,9 +2,9 @@
 use Rattle.std.proofs.Common.{◌≡◌, ℕ, suc, ◌+◌, ◌-◌, ◌<◌, ap, arith, List, ◌∷◌}
 use Rattle.std.specs.Prelude.{map}
 use Rattle.mk_txn.specs.declared.TxnId.{TxnId}
-use Rattle.mk_msg.specs.declared.Msg.{Msg}
-use Rattle.mk_msg.specs.declared.Body.{Body}
-use Rattle.mk_column.specs.ColumnState.{numbers_from}
+use Rattle.mk_words.specs.declared.Msg.{Msg}
+use Rattle.mk_words.specs.declared.Body.{Body}
+use Rattle.mk_model.specs.ColumnState.{numbers_from}
 
 -- the messages to the replicas from r on, n of them
 abbrev pub still_sent : ℕ → ℕ → ℕ → TxnId → ℕ → Body → List Msg

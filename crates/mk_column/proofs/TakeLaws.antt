@@ -1,27 +1,29 @@
 -- What a column keeps when a replica takes a message.
 use Rattle.std.proofs.Common.{◌≡◌, ◌<◌, ℕ, zero, suc, Bool, true, false, refl, sym, subst, ap, ◌∙◌, List, [], ◌∷◌, ◌++◌, Option, Some, None, ◌||◌, ◌&&◌, not, length, length-set, get_or, arith, cond}
-use Rattle.std.specs.Prelude.{find, map, option_map, option_and_then, slice_get, slice_set, slice_index_or, is_some, nat_lt, nat_le, ◌-◌, option_copied, IsSomeAnd, if◌then◌else◌}
+use Rattle.std.specs.Prelude.{find, map, option_map, option_and_then, slice_get, slice_set, slice_index_or, is_some, nat_lt, nat_le, ◌-◌, option_copied, IsSome, IsSomeAnd, if◌then◌else◌}
 use Rattle.std.specs.List.{list_any}
 use Rattle.std.specs.Option.{option_or}
 use Rattle.std.proofs.lemmas.List.{map-set, map-append, append-nil, set-get_or}
 use Rattle.std.proofs.lemmas.List.Folds.{find-append}
-use Rattle.std.proofs.lemmas.Bool.{false≢true}
+use Rattle.std.proofs.lemmas.Bool.{false≢true, cond_both}
 use Rattle.mk_lists.specs.Among.{Each, Each-weaker}
+use Rattle.mk_lists.proofs.Lookups.{find-passes}
+use Rattle.mk_lists.proofs.EachMember.{Each-find}
 use Rattle.mk_txn.specs.declared.TxnId.{TxnId}
 use Rattle.mk_txn.specs.declared.Vote.{Vote}
 use Rattle.mk_txn.specs.declared.Outcome.{Outcome}
 use Rattle.mk_txn.specs.Transactions.{Transaction, same_id}
 use Rattle.mk_txn.proofs.IdOrder.{same_id-tells, same_id-itself}
-use Rattle.mk_record.specs.declared.Entry.{Entry}
-use Rattle.mk_record.specs.Entries.{entry_of, opened, may_vote}
-use Rattle.mk_msg.specs.declared.Msg.{Msg}
-use Rattle.mk_msg.specs.declared.Body.{Body}
-use Rattle.mk_msg.specs.declared.Body.TheVariants.{Validate as ValidateBody, Voted, Accept, Accepted as AcceptedBody, Decide, Ask, Told as ToldBody, Moved as MovedBody}
-use Rattle.mk_msg.specs.Links.{goes_to_replica, message}
-use Rattle.mk_valid.specs.Checks.{KeyAct}
+use Rattle.mk_words.specs.declared.Entry.{Entry}
+use Rattle.mk_words.specs.Entries.{entry_of, opened, may_vote}
+use Rattle.mk_words.specs.declared.Msg.{Msg}
+use Rattle.mk_words.specs.declared.Body.{Body}
+use Rattle.mk_words.specs.declared.Body.TheVariants.{Validate as ValidateBody, Voted, Accept, Accepted as AcceptedBody, Decide, Ask, Told as ToldBody, Moved as MovedBody}
+use Rattle.mk_words.specs.Links.{goes_to_replica, message}
+use Rattle.mk_words.specs.Checks.{KeyAct}
 use Rattle.mk_quorum.specs.Sizes.{members}
 use Rattle.mk_trim.specs.SettledAttempts.{SettledAttempts}
-use Rattle.mk_merge.specs.declared.ReplicaView.{ReplicaView}
+use Rattle.mk_trim.specs.declared.ReplicaView.{ReplicaView}
 use Rattle.mk_column.specs.declared.learned.Learned.{Learned}
 use Rattle.mk_column.specs.declared.learned.Way.TheVariants.{Finishing as KeptFinished}
 use Rattle.std.specs.Borrow.{Bor}
@@ -29,29 +31,32 @@ use Rattle.std.specs.Slice.{IsItemAt}
 use Rattle.std.proofs.lemmas.Option.{none-some, same_Some, slice_get_past, slice_get_read}
 use Rattle.mk_column.specs.declared.work.Work.{Work as KeptWork}
 use Rattle.mk_column.specs.declared.work.Work.TheVariants.{Idle as KeptIdle, Fetching as KeptFetching, Validating as KeptValidating, Finishing as KeptFinishing}
-use Rattle.mk_column.specs.ColumnState.{Setting, ColumnState, Learning, Work, AttemptState, is_attempt, entries_at}
-use Rattle.mk_column.specs.ColumnState.Work.{Idle, Fetching, Validating, Finishing}
-use Rattle.mk_column.specs.Conditions.{is_validate_of, is_idle}
+use Rattle.mk_model.specs.ColumnState.{Setting, ColumnState, Learning, Work, AttemptState, is_attempt, entries_at}
+use Rattle.mk_model.specs.ColumnState.Work.{Idle, Fetching, Validating, Finishing}
+use Rattle.mk_model.specs.Conditions.{is_validate_of, is_idle, wanted}
+use Rattle.mk_words.specs.Validations.{next_act, validation_of}
 use Rattle.mk_column.specs.HeldByCode.{work_of, sent_of, reaction_with}
-use Rattle.mk_column.specs.Learnings.{txn_of, is_decision_of, is_final, is_finished_by, finished_by, by_message, by_taken}
-use Rattle.mk_column.specs.Replicas.{Held, Reaction, reply, ignored, answering, entry_or_opened, with_entry, marking, reaction, reaction_by_view, moved_reaction, validate_known, validate_unfinished, ask_known, accept_known, decide_known, finishing, is_serving, serves, held_at, reacted}
-use Rattle.mk_column.specs.Steps.{on_some, replica_takes, delivered, heard_taken, taken, column_after}
-use Rattle.mk_column.specs.Answers.{answer_taken}
-use Rattle.mk_column.specs.declared.Step.TheVariants.{Take}
+use Rattle.mk_model.specs.Learnings.{txn_of, is_decision_of, is_final, is_finished_by, by_message, by_taken}
+use Rattle.mk_column.specs.StepsByCode.{finished_by}
+use Rattle.mk_model.specs.Replicas.{Held, Reaction, reply, ignored, answering, entry_or_opened, with_entry, marking, reaction, reaction_by_view, moved_reaction, validate_known, validate_unfinished, ask_known, accept_known, decide_known, finishing, is_serving, serves, held_at, reacted}
+use Rattle.mk_model.specs.Steps.{on_some, replica_takes, taken, column_after}
+use Rattle.mk_column.specs.StepsByCode.{delivered, heard_taken}
+use Rattle.mk_model.specs.Answers.{answer_taken}
+use Rattle.mk_words.specs.declared.Step.TheVariants.{Take}
 use Rattle.mk_column.specs.AttemptsByCode.{BegunView, begun_of, is_begun, states_of}
 use Rattle.mk_column.specs.ColumnByCode.{Kept, IsKept, AttemptFits, WorkFits, MayVoteAt, first_decision, learning_of_kept, finish_kept, column_of}
-use Rattle.mk_column.proofs.Frames.{either_way}
-use Rattle.mk_column.proofs.ColumnLaws.{attempt-found, find-passes, Each-find}
+use Rattle.mk_column.proofs.ColumnLaws.{attempt-found}
 use Rattle.mk_column.proofs.AnswerLaws.{IsKept-replied, index-map}
 
 -- ---- what a reaction sends and begins
 
--- the key calls that a replica begins are at it, and an entry that is validated may vote
+-- the key calls that a replica begins are at it, an entry that is validated may vote, and an act is left
 abbrev pub WorkBegins : ℕ → Held → Work → Type 0
 WorkBegins r held Idle = Unit {0}
 WorkBegins r held (Fetching id replica key) = ⊥
-WorkBegins r held (Validating txn replica epoch state) = (replica ≡ r) × IsSomeAnd (entry_of txn.id held.entries) (λ entry. may_vote entry ≡ true)
-WorkBegins r held (Finishing replica left) = Unit {0}
+WorkBegins r held (Validating txn replica epoch state) =
+    (replica ≡ r) × IsSomeAnd (entry_of txn.id held.entries) (λ entry. may_vote entry ≡ true) × IsSome (next_act state)
+WorkBegins r held (Finishing replica left) = IsSome (wanted (Finishing replica left))
 
 -- no Validate is sent, and what is sent is of the message's replica
 pub record ReactionFits (msg : Msg) (reaction : Reaction) : Type 0 where
@@ -62,15 +67,17 @@ pub record ReactionFits (msg : Msg) (reaction : Reaction) : Type 0 where
 ignored-fits : (held : Held) (msg : Msg) → ReactionFits msg (ignored held)
 ignored-fits held msg = record { sent = λ id. refl; within = λ n h. tt; work = tt }
 
-answering-fits : (held : Held) (msg : Msg) (body : Body) → ((id : TxnId) → is_validate_of id (reply msg body) ≡ false) → ReactionFits msg (answering held msg body)
+answering-fits : (held : Held) (msg : Msg) (body : Body) → ((id : TxnId) → is_validate_of id (reply msg body) ≡ false)
+    → ReactionFits msg (answering held msg body)
 answering-fits held msg body e = record { sent = λ id. ap (λ b. b || false) (e id); within = λ n h. (h, tt); work = tt }
 
 finishing-begins : (r : ℕ) (held : Held) (acts : List KeyAct) → WorkBegins r held (finishing r acts)
 finishing-begins r held [] = tt
-finishing-begins r held (act ∷ acts) = tt
+finishing-begins r held (act ∷ acts) = refl
 
 -- an entry that is opened may vote
-opened-votes : (txn : Transaction) (id : TxnId) (entries : List Entry) → txn.id ≡ id → entry_of id entries ≡ None → IsSomeAnd (entry_of txn.id (entries ++ opened txn ∷ [])) (λ entry. may_vote entry ≡ true)
+opened-votes : (txn : Transaction) (id : TxnId) (entries : List Entry) → txn.id ≡ id → entry_of id entries ≡ None
+    → IsSomeAnd (entry_of txn.id (entries ++ opened txn ∷ [])) (λ entry. may_vote entry ≡ true)
 opened-votes txn id entries is none =
     subst (λ o. IsSomeAnd o (λ (entry : Entry). may_vote entry ≡ true)) (sym found) refl
   where
@@ -80,7 +87,8 @@ opened-votes txn id entries is none =
         ∙ ap (λ o. option_or o (find (λ (entry : Entry). same_id entry.txn.id txn.id) (opened txn ∷ []))) (ap (λ i. entry_of i entries) is ∙ none)
         ∙ ap (λ b. cond b (Some (opened txn)) None) (same_id-itself txn.id)
 
-validate-fits : (txn : Transaction) (mark : ℕ) (held : Held) (msg : Msg) (entry : Entry) (last : Option Outcome) → ReactionFits msg (validate_known mark entry held msg last)
+validate-fits : (txn : Transaction) (mark : ℕ) (held : Held) (msg : Msg) (entry : Entry) (last : Option Outcome)
+    → ReactionFits msg (validate_known mark entry held msg last)
 validate-fits txn mark held msg entry (Some outcome) = answering-fits (marking mark held msg) msg _ (λ id. refl)
 validate-fits txn mark held msg entry None = by_vote entry.vote
   where
@@ -90,26 +98,35 @@ validate-fits txn mark held msg entry None = by_vote entry.vote
 
 ask-fits : (held : Held) (msg : Msg) (entry : Entry) (last : Option Outcome) → ReactionFits msg (ask_known entry held msg last)
 ask-fits held msg entry (Some outcome) = answering-fits held msg _ (λ id. refl)
-ask-fits held msg entry None = either_way (ReactionFits msg) (nat_lt msg.view entry.view) (ignored held) _ (λ e. ignored-fits held msg) (λ e. answering-fits _ msg _ (λ id. refl))
+ask-fits held msg entry None =
+    cond_both (nat_lt msg.view entry.view) (ignored held) _ (ReactionFits msg) (λ e. ignored-fits held msg) (λ e. answering-fits _ msg _ (λ id. refl))
 
-accept-fits : (outcome : Outcome) (held : Held) (msg : Msg) (entry : Entry) (last : Option Outcome) → ReactionFits msg (accept_known outcome entry held msg last)
+accept-fits : (outcome : Outcome) (held : Held) (msg : Msg) (entry : Entry) (last : Option Outcome)
+    → ReactionFits msg (accept_known outcome entry held msg last)
 accept-fits outcome held msg entry (Some kept) = answering-fits held msg _ (λ id. refl)
-accept-fits outcome held msg entry None = either_way (ReactionFits msg) (nat_lt msg.view entry.view) (ignored held) _ (λ e. ignored-fits held msg) (λ e. answering-fits _ msg AcceptedBody (λ id. refl))
+accept-fits outcome held msg entry None =
+    cond_both (nat_lt msg.view entry.view) (ignored held) _ (ReactionFits msg) (λ e. ignored-fits held msg) (λ e. answering-fits _ msg AcceptedBody (λ id. refl))
 
-decide-fits : (outcome : Outcome) (held : Held) (msg : Msg) (entry : Entry) (last : Option Outcome) → ReactionFits msg (decide_known outcome entry held msg last)
+decide-fits : (outcome : Outcome) (held : Held) (msg : Msg) (entry : Entry) (last : Option Outcome)
+    → ReactionFits msg (decide_known outcome entry held msg last)
 decide-fits outcome held msg entry (Some kept) = ignored-fits held msg
-decide-fits outcome held msg entry None = record { sent = λ id. refl; within = λ n h. tt; work = finishing-begins msg.replica (decide_known outcome entry held msg None).held _ }
+decide-fits outcome held msg entry None =
+    record { sent = λ id. refl; within = λ n h. tt; work = finishing-begins msg.replica (decide_known outcome entry held msg None).held _ }
 
-body-fits : (txn : Transaction) (held : Held) (msg : Msg) (entry : Option Entry) (body : Body) → txn.id ≡ msg.id → entry_of msg.id held.entries ≡ entry → ReactionFits msg (reaction txn held msg entry body)
-body-fits txn held msg (Some entry) (ValidateBody mark) is found = validate-fits txn mark held msg entry entry.last
-body-fits txn held msg None (ValidateBody mark) is found = record { sent = λ id. refl; within = λ n h. tt; work = (refl, opened-votes txn msg.id held.entries is found) }
-body-fits txn held msg entry Ask is found = ask-fits (with_entry txn held entry) msg (entry_or_opened txn entry) (entry_or_opened txn entry).last
-body-fits txn held msg entry (Accept outcome) is found = accept-fits outcome (with_entry txn held entry) msg (entry_or_opened txn entry) (entry_or_opened txn entry).last
-body-fits txn held msg entry (Decide outcome) is found = decide-fits outcome (with_entry txn held entry) msg (entry_or_opened txn entry) (entry_or_opened txn entry).last
-body-fits txn held msg entry (Voted vote) is found = ignored-fits held msg
-body-fits txn held msg entry AcceptedBody is found = ignored-fits held msg
-body-fits txn held msg entry (ToldBody told) is found = ignored-fits held msg
-body-fits txn held msg entry (MovedBody moved) is found = ignored-fits held msg
+body-fits : (txn : Transaction) (held : Held) (msg : Msg) (entry : Option Entry) (body : Body) → txn.id ≡ msg.id → IsSome (next_act (validation_of txn))
+    → entry_of msg.id held.entries ≡ entry → ReactionFits msg (reaction txn held msg entry body)
+body-fits txn held msg (Some entry) (ValidateBody mark) is acts found = validate-fits txn mark held msg entry entry.last
+body-fits txn held msg None (ValidateBody mark) is acts found =
+    record { sent = λ id. refl; within = λ n h. tt; work = (refl, opened-votes txn msg.id held.entries is found, acts) }
+body-fits txn held msg entry Ask is acts found = ask-fits (with_entry txn held entry) msg (entry_or_opened txn entry) (entry_or_opened txn entry).last
+body-fits txn held msg entry (Accept outcome) is acts found =
+    accept-fits outcome (with_entry txn held entry) msg (entry_or_opened txn entry) (entry_or_opened txn entry).last
+body-fits txn held msg entry (Decide outcome) is acts found =
+    decide-fits outcome (with_entry txn held entry) msg (entry_or_opened txn entry) (entry_or_opened txn entry).last
+body-fits txn held msg entry (Voted vote) is acts found = ignored-fits held msg
+body-fits txn held msg entry AcceptedBody is acts found = ignored-fits held msg
+body-fits txn held msg entry (ToldBody told) is acts found = ignored-fits held msg
+body-fits txn held msg entry (MovedBody moved) is acts found = ignored-fits held msg
 
 moved-fits : (view : ReplicaView) (held : Held) (msg : Msg) (body : Body) → ReactionFits msg (moved_reaction view held msg body)
 moved-fits view held msg (Decide outcome) = ignored-fits held msg
@@ -121,11 +138,10 @@ moved-fits view held msg AcceptedBody = answering-fits held msg _ (λ id. refl)
 moved-fits view held msg (ToldBody told) = answering-fits held msg _ (λ id. refl)
 moved-fits view held msg (MovedBody moved) = answering-fits held msg _ (λ id. refl)
 
-pub reaction-fits : (txn : Transaction) (held : Held) (msg : Msg) (view : ReplicaView) → txn.id ≡ msg.id → ReactionFits msg (reaction_by_view txn held msg (Some view))
-reaction-fits txn held msg view is =
-    either_way (ReactionFits msg) (not (is_serving view.phase)) (ignored held) _ (λ e. ignored-fits held msg)
-    (λ e. either_way (ReactionFits msg) (nat_lt view.epoch msg.epoch) (ignored held) _ (λ k. ignored-fits held msg)
-    (λ k. either_way (ReactionFits msg) (nat_lt msg.epoch view.epoch) (moved_reaction view held msg msg.body) _ (λ j. moved-fits view held msg msg.body) (λ j. body-fits txn held msg (entry_of msg.id held.entries) msg.body is refl)))
+pub reaction-fits : (txn : Transaction) (held : Held) (msg : Msg) (view : ReplicaView) → txn.id ≡ msg.id → IsSome (next_act (validation_of txn))
+    → ReactionFits msg (reaction_by_view txn held msg (Some view))
+reaction-fits txn held msg view is acts =
+    cond_both (not (is_serving view.phase)) (ignored held) _ (ReactionFits msg) (λ e. ignored-fits held msg) (λ e. cond_both (nat_lt view.epoch msg.epoch) (ignored held) _ (ReactionFits msg) (λ k. ignored-fits held msg) (λ k. cond_both (nat_lt msg.epoch view.epoch) (moved_reaction view held msg msg.body) _ (ReactionFits msg) (λ j. moved-fits view held msg msg.body) (λ j. body-fits txn held msg (entry_of msg.id held.entries) msg.body is acts refl)))
 
 -- ---- what the column keeps
 
@@ -134,26 +150,31 @@ index-set [] n x d h = absurd (omega arith)
 index-set (first ∷ xs) zero x d h = refl
 index-set (first ∷ xs) (suc n) x d h = index-set xs n x d (omega arith)
 
-begun-fits : (n : ℕ) (attempts : List BegunView) (replicas : List Held) (r : ℕ) (held : Held) (work : KeptWork) → r < n → length replicas ≡ n → WorkBegins r held (work_of work) → WorkFits n attempts (slice_set replicas r held) work
+begun-fits : (n : ℕ) (attempts : List BegunView) (replicas : List Held) (r : ℕ) (held : Held) (work : KeptWork) → r < n → length replicas ≡ n
+    → WorkBegins r held (work_of work) → WorkFits n attempts (slice_set replicas r held) work
 begun-fits n attempts replicas r held KeptIdle h long k = tt
 begun-fits n attempts replicas r held (KeptFetching id replica key) h long k = absurd k
 begun-fits n attempts replicas r held (KeptValidating txn replica epoch state) h long k =
     let within : r < length replicas = subst (λ m. r < m) (sym long) h in (
       subst (λ m. m < n) (sym k.0) h,
-      subst (λ m. MayVoteAt m txn.id (slice_set replicas r held)) (sym k.0) (subst (λ (there : Held). IsSomeAnd (entry_of txn.id there.entries) (λ entry. may_vote entry ≡ true)) (sym (index-set replicas r held (record { entries = []; marks = [] }) within)) k.1),
+      subst (λ m. MayVoteAt m txn.id (slice_set replicas r held)) (sym k.0)
+          (subst (λ (there : Held). IsSomeAnd (entry_of txn.id there.entries) (λ entry. may_vote entry ≡ true)) (sym (index-set replicas r held (record { entries = []; marks = [] }) within)) k.1),
+      k.2,
     )
-begun-fits n attempts replicas r held (KeptFinishing replica left) h long k = tt
+begun-fits n attempts replicas r held (KeptFinishing replica left) h long k = k
 
 -- what a replica's finishing teaches leaves what is decided
 finish-none : (id q : TxnId) (finished : Option Outcome) → find (is_decision_of q) (map learning_of_kept (finish_kept id finished)) ≡ None
 finish-none id q None = refl
-finish-none id q (Some outcome) = ap (λ b. cond b (Some (learning_of_kept (record { id = id; outcome = outcome; way = KeptFinished }))) None) (and_false (same_id id q))
+finish-none id q (Some outcome) =
+    ap (λ b. cond b (Some (learning_of_kept (record { id = id; outcome = outcome; way = KeptFinished }))) None) (and_false (same_id id q))
   where
     and_false : (b : Bool) → (b && false) ≡ false
     and_false true = refl
     and_false false = refl
 
-decision-stays : (q id : TxnId) (finished : Option Outcome) (learned : List Learned) → first_decision (map learning_of_kept (learned ++ finish_kept id finished)) q ≡ first_decision (map learning_of_kept learned) q
+decision-stays : (q id : TxnId) (finished : Option Outcome) (learned : List Learned)
+    → first_decision (map learning_of_kept (learned ++ finish_kept id finished)) q ≡ first_decision (map learning_of_kept learned) q
 decision-stays q id finished learned =
     ap (λ all. first_decision all q) (map-append learning_of_kept learned (finish_kept id finished))
     ∙ ap (option_map (λ (l : Learning). l.outcome)) (find-append (is_decision_of q) (map learning_of_kept learned) (map learning_of_kept (finish_kept id finished)) ∙ ap (option_or (find (is_decision_of q) (map learning_of_kept learned))) (finish-none id q finished) ∙ or_none (find (is_decision_of q) (map learning_of_kept learned)))
@@ -162,13 +183,16 @@ decision-stays q id finished learned =
     or_none None = refl
     or_none (Some l) = refl
 
-IsKept-finished : (f : ℕ) (kept : Kept) (ends : SettledAttempts) (id : TxnId) (finished : Option Outcome) → IsKept f kept ends → IsKept f (record kept { learned = kept.learned ++ finish_kept id finished }) ends
+IsKept-finished : (f : ℕ) (kept : Kept) (ends : SettledAttempts) (id : TxnId) (finished : Option Outcome) → IsKept f kept ends
+    → IsKept f (record kept { learned = kept.learned ++ finish_kept id finished }) ends
 IsKept-finished f kept ends id finished h =
     let learned = map learning_of_kept kept.learned in
     let more = map learning_of_kept (kept.learned ++ finish_kept id finished) in
     record {
       replicas = h.replicas;
-      attempts = Each-weaker (AttemptFits f kept.link learned) (AttemptFits f kept.link more) (λ b k. fits-finished f kept.link learned more b (decision-stays b.state.id id finished kept.learned) k) kept.attempts h.attempts;
+      attempts =
+          Each-weaker (AttemptFits f kept.link learned) (AttemptFits f kept.link more)
+          (λ b k. fits-finished f kept.link learned more b (decision-stays b.state.id id finished kept.learned) k) kept.attempts h.attempts;
       takeovers = h.takeovers;
       clients = h.clients;
       sent = h.sent;
@@ -180,22 +204,27 @@ IsKept-finished f kept ends id finished h =
       work = h.work;
     }
   where
-    fits-finished : (f : ℕ) (link : List Msg) (learned more : List Learning) (b : BegunView) → first_decision more b.state.id ≡ first_decision learned b.state.id → AttemptFits f link learned b → AttemptFits f link more b
-    fits-finished f link learned more b e k = record { faults = k.faults; validated = k.validated; decided = k.decided ∙ sym e; named = k.named; unstamped = k.unstamped; seq = k.seq }
+    fits-finished : (f : ℕ) (link : List Msg) (learned more : List Learning) (b : BegunView)
+        → first_decision more b.state.id ≡ first_decision learned b.state.id → AttemptFits f link learned b → AttemptFits f link more b
+    fits-finished f link learned more b e k =
+        record { faults = k.faults; validated = k.validated; decided = k.decided ∙ sym e; named = k.named; acts = k.acts; unstamped = k.unstamped; seq = k.seq }
 
 -- a reaction of the code is one of the definitions
 pub record IsReaction (kept : Kept) (msg : Msg) (txn : Transaction) (view : ReplicaView) (old new : Held) (answer : Option Body) (work : KeptWork) : Type 0 where
   pub within : msg.replica < length kept.replicas
   pub there : old ≡ get_or kept.replicas msg.replica old
   pub named : txn.id ≡ msg.id
+  pub acts : IsSome (next_act (validation_of txn))
   pub reacts : reaction_with new msg answer work ≡ reaction_by_view txn old msg (Some view)
 
-pub IsKept-delivered : (f : ℕ) (kept : Kept) (ends : SettledAttempts) (msg : Msg) (txn : Transaction) (view : ReplicaView) (old new : Held) (answer : Option Body) (work : KeptWork) (finished : Option Outcome) (link : List Msg) (learned : List Learned)
-    → IsKept f kept ends → IsReaction kept msg txn view old new answer work → link ≡ kept.link ++ sent_of msg answer → learned ≡ kept.learned ++ finish_kept msg.id finished
+pub IsKept-delivered : (f : ℕ) (kept : Kept) (ends : SettledAttempts) (msg : Msg) (txn : Transaction) (view : ReplicaView) (old new : Held)
+    (answer : Option Body) (work : KeptWork) (finished : Option Outcome) (link : List Msg) (learned : List Learned)
+    → IsKept f kept ends → IsReaction kept msg txn view old new answer work → link ≡ kept.link ++ sent_of msg answer
+    → learned ≡ kept.learned ++ finish_kept msg.id finished
     → IsKept f (record kept { replicas = slice_set kept.replicas msg.replica new; link = link; work = work; learned = learned }) ends
 IsKept-delivered f kept ends msg txn view old new answer work finished link learned h r sent taught =
     let within : msg.replica < members f = subst (λ n. msg.replica < n) h.replicas r.within in
-    let fits : ReactionFits msg (reaction_with new msg answer work) = subst (ReactionFits msg) (sym r.reacts) (reaction-fits txn old msg view r.named) in
+    let fits : ReactionFits msg (reaction_with new msg answer work) = subst (ReactionFits msg) (sym r.reacts) (reaction-fits txn old msg view r.named r.acts) in
     rw (sent, taught)
     (IsKept-finished f _ ends msg.id finished
     (IsKept-replied f kept ends (slice_set kept.replicas msg.replica new) (sent_of msg answer) work h (length-set _ _ _ ∙ h.replicas) (fits.within (members f) within) fits.sent
@@ -203,13 +232,15 @@ IsKept-delivered f kept ends msg txn view old new answer work finished link lear
 
 -- ---- as the definitions have it
 
-finish-learned : (round : Setting) (column : ColumnState) (msg : Msg) (body : Body) → goes_to_replica body ≡ true → map learning_of_kept (finish_kept msg.id (finished_by round column msg body)) ≡ by_message round column msg body
+finish-learned : (round : Setting) (column : ColumnState) (msg : Msg) (body : Body) → goes_to_replica body ≡ true
+    → map learning_of_kept (finish_kept msg.id (finished_by round column msg body)) ≡ by_message round column msg body
 finish-learned round column msg (ValidateBody mark) e = refl
 finish-learned round column msg (Accept outcome) e = refl
 finish-learned round column msg Ask e = refl
 finish-learned round column msg (Decide outcome) e = by_test (is_finished_by round column msg)
   where
-    by_test : (t : Bool) → map learning_of_kept (finish_kept msg.id (if t then Some outcome else None)) ≡ (if t then learning_of_kept (record { id = msg.id; outcome = outcome; way = KeptFinished }) ∷ [] else [])
+    by_test : (t : Bool)
+        → map learning_of_kept (finish_kept msg.id (if t then Some outcome else None)) ≡ (if t then learning_of_kept (record { id = msg.id; outcome = outcome; way = KeptFinished }) ∷ [] else [])
     by_test true = refl
     by_test false = refl
 finish-learned round column msg (Voted vote) e = absurd (false≢true e)
@@ -217,21 +248,27 @@ finish-learned round column msg AcceptedBody e = absurd (false≢true e)
 finish-learned round column msg (ToldBody told) e = absurd (false≢true e)
 finish-learned round column msg (MovedBody moved) e = absurd (false≢true e)
 
-pub delivered-state : (round : Setting) (kept : Kept) (msg : Msg) (txn : Transaction) (view : ReplicaView) (old new : Held) (answer : Option Body) (work : KeptWork) (link : List Msg) (learned : List Learned) (finished : Option Outcome)
-    → IsReaction kept msg txn view old new answer work → txn_of (column_of kept) msg.id ≡ Some txn → slice_get round.views msg.replica ≡ Some view → goes_to_replica msg.body ≡ true
-    → link ≡ kept.link ++ sent_of msg answer → learned ≡ kept.learned ++ finish_kept msg.id finished → finished ≡ finished_by round (column_of kept) msg msg.body
+pub delivered-state : (round : Setting) (kept : Kept) (msg : Msg) (txn : Transaction) (view : ReplicaView) (old new : Held) (answer : Option Body)
+    (work : KeptWork) (link : List Msg) (learned : List Learned) (finished : Option Outcome)
+    → IsReaction kept msg txn view old new answer work → txn_of (column_of kept) msg.id ≡ Some txn → slice_get round.views msg.replica ≡ Some view
+    → goes_to_replica msg.body ≡ true
+    → link ≡ kept.link ++ sent_of msg answer → learned ≡ kept.learned ++ finish_kept msg.id finished
+    → finished ≡ finished_by round (column_of kept) msg msg.body
     → column_of (record kept { replicas = slice_set kept.replicas msg.replica new; link = link; work = work; learned = learned }) ≡ delivered round msg (column_of kept)
 delivered-state round kept msg txn view old new answer work link learned finished r stamped seen goes sent taught finishes =
     let column = column_of kept in
     let p = msg.replica in
     let teach = by_message round column msg msg.body in
     let held : held_at column p ≡ old =
-    (λ i. record { entries = index-map (λ (h : Held). h.entries) kept.replicas p old [] r.within i; marks = index-map (λ (h : Held). h.marks) kept.replicas p old [] r.within i }) ∙ sym r.there in
+    (λ i. record { entries = index-map (λ (h : Held). h.entries) kept.replicas p old [] r.within i; marks = index-map (λ (h : Held). h.marks) kept.replicas p old [] r.within i })
+    ∙ sym r.there in
     let takes : on_some (replica_takes round msg) (txn_of column msg.id) column ≡ reacted p (reaction_with new msg answer work) column =
     ap (λ o. on_some (replica_takes round msg) o column) stamped ∙ ap (λ o. reacted p (reaction_by_view txn (held_at column p) msg o) column) seen
     ∙ ap (λ h. reacted p (reaction_by_view txn h msg (Some view)) column) held ∙ ap (λ reaction. reacted p reaction column) (sym r.reacts) in
     let learns : map learning_of_kept learned ≡ column.learned ++ teach =
-    ap (map learning_of_kept) taught ∙ map-append learning_of_kept kept.learned (finish_kept msg.id finished) ∙ ap (λ o. column.learned ++ map learning_of_kept (finish_kept msg.id o)) finishes ∙ ap (λ all. column.learned ++ all) (finish-learned round column msg msg.body goes) in
+    ap (map learning_of_kept) taught ∙ map-append learning_of_kept kept.learned (finish_kept msg.id finished)
+    ∙ ap (λ o. column.learned ++ map learning_of_kept (finish_kept msg.id o)) finishes
+    ∙ ap (λ all. column.learned ++ all) (finish-learned round column msg msg.body goes) in
     (λ i. record column {
       records = map-set (λ (h : Held). h.entries) kept.replicas p new i;
       marks = map-set (λ (h : Held). h.marks) kept.replicas p new i;
@@ -243,24 +280,28 @@ delivered-state round kept msg txn view old new answer work link learned finishe
 
 -- ---- messages that change nothing
 
-teaches-none : (round : Setting) (column : ColumnState) (msg : Msg) (body : Body) → goes_to_replica body ≡ true → is_finished_by round column msg ≡ false → by_message round column msg body ≡ []
+teaches-none : (round : Setting) (column : ColumnState) (msg : Msg) (body : Body) → goes_to_replica body ≡ true → is_finished_by round column msg ≡ false
+    → by_message round column msg body ≡ []
 teaches-none round column msg (ValidateBody mark) e k = refl
 teaches-none round column msg (Accept outcome) e k = refl
 teaches-none round column msg Ask e k = refl
-teaches-none round column msg (Decide outcome) e k = ap (λ t. if t then learning_of_kept (record { id = msg.id; outcome = outcome; way = KeptFinished }) ∷ [] else []) k
+teaches-none round column msg (Decide outcome) e k =
+    ap (λ t. if t then learning_of_kept (record { id = msg.id; outcome = outcome; way = KeptFinished }) ∷ [] else []) k
 teaches-none round column msg (Voted vote) e k = absurd (false≢true e)
 teaches-none round column msg AcceptedBody e k = absurd (false≢true e)
 teaches-none round column msg (ToldBody told) e k = absurd (false≢true e)
 teaches-none round column msg (MovedBody moved) e k = absurd (false≢true e)
 
-nothing-delivered : (round : Setting) (column : ColumnState) (msg : Msg) → on_some (replica_takes round msg) (txn_of column msg.id) column ≡ column → by_message round column msg msg.body ≡ [] → column ≡ delivered round msg column
+nothing-delivered : (round : Setting) (column : ColumnState) (msg : Msg) → on_some (replica_takes round msg) (txn_of column msg.id) column ≡ column
+    → by_message round column msg msg.body ≡ [] → column ≡ delivered round msg column
 nothing-delivered round column msg same none =
     (λ i. record column { learned = sym (append-nil column.learned) i })
     ∙ (λ i. record column { learned = column.learned ++ sym none i })
     ∙ sym (ap (λ (col : ColumnState). record col { learned = column.learned ++ by_message round column msg msg.body }) same)
 
 -- a message to a replica that is not seen
-pub unseen-state : (round : Setting) (column : ColumnState) (msg : Msg) → is_idle column.work ≡ true → slice_get round.views msg.replica ≡ None → goes_to_replica msg.body ≡ true → column ≡ delivered round msg column
+pub unseen-state : (round : Setting) (column : ColumnState) (msg : Msg) → is_idle column.work ≡ true → slice_get round.views msg.replica ≡ None
+    → goes_to_replica msg.body ≡ true → column ≡ delivered round msg column
 unseen-state round column msg idle none goes =
     nothing-delivered round column msg (takes (txn_of column msg.id))
     (teaches-none round column msg msg.body goes (ap (λ o. serves msg.epoch o && is_some (txn_of column msg.id) && not (is_final (entry_of msg.id (entries_at column msg.replica)))) none))
@@ -283,7 +324,8 @@ unseen-state round column msg idle none goes =
         })
 
 -- a message about an attempt that is not stamped
-pub unstamped-state : (round : Setting) (column : ColumnState) (msg : Msg) → txn_of column msg.id ≡ None → goes_to_replica msg.body ≡ true → column ≡ delivered round msg column
+pub unstamped-state : (round : Setting) (column : ColumnState) (msg : Msg) → txn_of column msg.id ≡ None → goes_to_replica msg.body ≡ true
+    → column ≡ delivered round msg column
 unstamped-state round column msg none goes =
     nothing-delivered round column msg (ap (λ o. on_some (replica_takes round msg) o column) none)
     (teaches-none round column msg msg.body goes
@@ -296,19 +338,34 @@ unstamped-state round column msg none goes =
 
 -- ---- what the tables tell
 
-pub txn-found : (id : TxnId) (all : List BegunView) → option_and_then (λ (a : AttemptState). a.txn) (find (is_attempt id) (states_of all)) ≡ option_and_then (λ (b : BegunView). b.state.txn) (begun_of id all)
+pub txn-found : (id : TxnId) (all : List BegunView)
+    → option_and_then (λ (a : AttemptState). a.txn) (find (is_attempt id) (states_of all)) ≡ option_and_then (λ (b : BegunView). b.state.txn) (begun_of id all)
 txn-found id all = ap (option_and_then (λ (a : AttemptState). a.txn)) (attempt-found id all) ∙ through (begun_of id all)
   where
-    through : (o : Option BegunView) → option_and_then (λ (a : AttemptState). a.txn) (option_map (λ (b : BegunView). b.state) o) ≡ option_and_then (λ (b : BegunView). b.state.txn) o
+    through : (o : Option BegunView)
+        → option_and_then (λ (a : AttemptState). a.txn) (option_map (λ (b : BegunView). b.state) o) ≡ option_and_then (λ (b : BegunView). b.state.txn) o
     through None = refl
     through (Some b) = refl
 
-pub txn-named : (f : ℕ) (link : List Msg) (learned : List Learning) (id : TxnId) (all : List BegunView) (txn : Transaction) → Each (AttemptFits f link learned) all → option_and_then (λ (b : BegunView). b.state.txn) (begun_of id all) ≡ Some txn → txn.id ≡ id
+pub txn-named : (f : ℕ) (link : List Msg) (learned : List Learning) (id : TxnId) (all : List BegunView) (txn : Transaction)
+    → Each (AttemptFits f link learned) all → option_and_then (λ (b : BegunView). b.state.txn) (begun_of id all) ≡ Some txn → txn.id ≡ id
 txn-named f link learned id all txn h e = by_found (begun_of id all) refl e
   where
     by_found : (o : Option BegunView) → begun_of id all ≡ o → option_and_then (λ (b : BegunView). b.state.txn) o ≡ Some txn → txn.id ≡ id
     by_found None found k = absurd (none-some txn k)
-    by_found (Some b) found k = (Each-find (AttemptFits f link learned) (is_begun id) all b h found).named txn k ∙ same_id-tells b.state.id id (find-passes (is_begun id) all b found)
+    by_found (Some b) found k =
+        (Each-find (AttemptFits f link learned) (is_begun id) all b h found).named txn k ∙ same_id-tells b.state.id id (find-passes (is_begun id) all b found)
+
+-- the transaction of an attempt has an act
+pub txn-acts : (f : ℕ) (link : List Msg) (learned : List Learning) (id : TxnId) (all : List BegunView) (txn : Transaction)
+    → Each (AttemptFits f link learned) all → option_and_then (λ (b : BegunView). b.state.txn) (begun_of id all) ≡ Some txn
+    → IsSome (next_act (validation_of txn))
+txn-acts f link learned id all txn h e = by_found (begun_of id all) refl e
+  where
+    by_found : (o : Option BegunView) → begun_of id all ≡ o → option_and_then (λ (b : BegunView). b.state.txn) o ≡ Some txn
+        → IsSome (next_act (validation_of txn))
+    by_found None found k = absurd (none-some txn k)
+    by_found (Some b) found k = (Each-find (AttemptFits f link learned) (is_begun id) all b h found).acts txn k
 
 pub item-at : {X : Type 0} (xs : List X) (place : ℕ) (got : Option (Bor X)) → IsItemAt xs place got → option_copied got ≡ slice_get xs place
 item-at xs place None h = sym (slice_get_past xs place h.3)
@@ -320,21 +377,3 @@ Each-got : (P : Msg → Type 0) (xs : List Msg) (n : ℕ) (x : Msg) → Each P x
 Each-got P [] n x h e = absurd (none-some x e)
 Each-got P (first ∷ xs) zero x h e = subst P (same_Some first x e) h.0
 Each-got P (first ∷ xs) (suc n) x h e = Each-got P xs n x h.1 e
-
--- what each message has, the message of a number has
-pub Each-message : (P : Msg → Type 0) (link : List Msg) (number : ℕ) (msg : Msg) → Each P link → message link number ≡ Some msg → P msg
-Each-message P link number msg h e = by_test (nat_le 1 number) e
-  where
-    by_test : (t : Bool) → (if t then slice_get link (number - 1) else None) ≡ Some msg → P msg
-    by_test true k = Each-got P link (number - 1) msg h k
-    by_test false k = absurd (none-some msg k)
-
-pub take-delivered : (round : Setting) (column : ColumnState) (number : ℕ) (msg : Msg) → message column.link number ≡ Some msg → goes_to_replica msg.body ≡ true → delivered round msg column ≡ column_after round column (Take number)
-take-delivered round column number msg found goes =
-    sym (ap (λ (o : Option Msg). let after = on_some (taken round) o column in record after { learned = column.learned ++ by_taken round column o }) found
-    ∙ ap (λ t. record (if t then on_some (replica_takes round msg) (txn_of column msg.id) column else answer_taken round msg column) { learned = column.learned ++ by_message round column msg msg.body }) goes)
-
-pub take-heard : (round : Setting) (column : ColumnState) (number : ℕ) (msg : Msg) → message column.link number ≡ Some msg → goes_to_replica msg.body ≡ false → heard_taken round msg column ≡ column_after round column (Take number)
-take-heard round column number msg found goes =
-    sym (ap (λ (o : Option Msg). let after = on_some (taken round) o column in record after { learned = column.learned ++ by_taken round column o }) found
-    ∙ ap (λ t. record (if t then on_some (replica_takes round msg) (txn_of column msg.id) column else answer_taken round msg column) { learned = column.learned ++ by_message round column msg msg.body }) goes)

@@ -2,71 +2,93 @@
 use Rattle.std.proofs.Common.{◌≡◌, ℕ, ◌<◌, Bool, true, false, cond, not, ◌&&◌, ◌==◌, refl, sym, ap, subst, ◌∙◌, List, [], ◌∷◌, ◌++◌, Option, Some, None, IsSome}
 use Rattle.std.specs.Prelude.{find, is_some, option_map, IsSomeAnd}
 use Rattle.std.proofs.lemmas.Option.{none-some, same_Some}
+use Rattle.std.proofs.lemmas.Bool.{cond-false}
 use Rattle.mk_lists.specs.Among.{Each}
 use Rattle.mk_lists.specs.Changed.{change}
+use Rattle.mk_lists.proofs.EachMember.{Each-find}
+use Rattle.mk_lists.proofs.Lookups.{find-passes}
+use Rattle.mk_lists.proofs.Options.{None-from_map}
+use Rattle.mk_lists.proofs.Changes.{change-none}
 use Rattle.mk_txn.specs.declared.TxnId.{TxnId}
-use Rattle.mk_msg.specs.declared.Body.{Body}
-use Rattle.mk_msg.specs.declared.Body.TheVariants.{Validate as ValidateBody, Voted, Accept, Accepted as AcceptedBody, Decide, Ask, Told as ToldBody, Moved as MovedBody}
-use Rattle.mk_msg.specs.declared.Msg.{Msg}
-use Rattle.mk_msg.specs.Links.{goes_to_replica}
+use Rattle.mk_words.specs.declared.Body.{Body}
+use Rattle.mk_words.specs.declared.Body.TheVariants.{Validate as ValidateBody, Voted, Accept, Accepted as AcceptedBody, Decide, Ask, Told as ToldBody, Moved as MovedBody}
+use Rattle.mk_words.specs.declared.Msg.{Msg}
+use Rattle.mk_words.specs.Links.{goes_to_replica}
 use Rattle.mk_quorum.specs.Sizes.{members}
 use Rattle.mk_quorum.specs.Slots.{passes}
-use Rattle.mk_column.specs.Answers.{is_led, state_answered, takeover_answered, takeover_heard, answer_taken}
-use Rattle.mk_takeover.specs.declared.Pick.{Pick}
-use Rattle.mk_takeover.specs.declared.Pick.TheVariants.{Known, Learned as PickLearned, Propose as PickPropose, Short as PickShort, Unaccepted as PickUnaccepted, Unclear}
-use Rattle.mk_takeover.specs.Picks.{pick}
+use Rattle.mk_model.specs.Answers.{is_led, state_answered, takeover_answered, takeover_heard, answer_taken}
+use Rattle.mk_words.specs.declared.Pick.{Pick}
+use Rattle.mk_words.specs.declared.Pick.TheVariants.{Known, Learned as PickLearned, Propose as PickPropose, Short as PickShort, Unaccepted as PickUnaccepted, Unclear}
+use Rattle.mk_words.specs.Picks.{pick}
 use Rattle.mk_column.specs.declared.Attempt.{Attempt}
-use Rattle.mk_column.specs.declared.backup.Turn.{Turn}
-use Rattle.mk_column.specs.declared.Step.TheVariants.{Takeover, Pick as PickStep}
-use Rattle.mk_column.specs.ColumnState.{ColumnState, Setting, AttemptState, TakeoverOf, Learning, attempt_of, takeover_of, is_takeover, change_takeover, shown, send, to_all}
-use Rattle.mk_column.specs.ColumnState.Way.{ByTelling, ByPick}
-use Rattle.mk_column.specs.Learnings.{learning, by_pick, by_takeover, by_message, is_heard}
-use Rattle.mk_column.specs.Steps.{heard_taken, column_after, on_some, picked, picking, taken_over, closing, takeover_proposing, with_learning}
+use Rattle.mk_column.specs.declared.backup.ViewId.{ViewId}
+use Rattle.mk_words.specs.declared.Step.TheVariants.{Takeover, Pick as PickStep}
+use Rattle.mk_model.specs.ColumnState.{ColumnState, Setting, AttemptState, TakeoverOf, Learning, attempt_of, takeover_of, is_takeover, change_takeover, send, to_all}
+use Rattle.mk_column.specs.ColumnState.{shown}
+use Rattle.mk_model.specs.ColumnState.Way.{ByTelling, ByPick}
+use Rattle.mk_model.specs.Learnings.{learning, by_pick, by_takeover, by_message, is_heard}
+use Rattle.mk_model.specs.Steps.{column_after, on_some, picked, picking, taken_over, closing, takeover_proposing, with_learning}
+use Rattle.mk_column.specs.StepsByCode.{heard_taken}
 use Rattle.mk_column.specs.TakeoversByCode.{BackupView, backup_of, backup_begun, takeovers_of, change_backup, on_backup}
-use Rattle.mk_column.proofs.ColumnLaws.{takeover-found, Each-find, find-passes}
+use Rattle.mk_column.proofs.ColumnLaws.{takeover-found}
 use Rattle.mk_txn.specs.Transactions.{same_id}
 use Rattle.mk_txn.proofs.IdOrder.{same_id-tells}
 use Rattle.mk_column.specs.AttemptsByCode.{BegunView, begun_of}
-use Rattle.mk_column.proofs.ListLaws.{map-change, none-from_map}
+use Rattle.mk_column.proofs.ListLaws.{map-change}
 use Rattle.mk_column.proofs.StepLaws.{some-from_map, none-learned, attempt-named}
 
-pub backup-there : (turn : Turn) (all : List BackupView) (column : ColumnState) → column.takeovers ≡ takeovers_of all → IsSome (takeover_of column turn.id turn.view) → IsSome (backup_of turn all)
-backup-there turn all column is h =
-    some-from_map (λ (b : BackupView). b.of) (backup_of turn all) (subst IsSome (ap (find (is_takeover turn.id turn.view)) is ∙ takeover-found turn.id turn.view all) h)
+pub backup-there : (view_id : ViewId) (all : List BackupView) (column : ColumnState) → column.takeovers ≡ takeovers_of all
+    → IsSome (takeover_of column view_id.id view_id.view) → IsSome (backup_of view_id all)
+backup-there view_id all column is h =
+    some-from_map (λ (b : BackupView). b.of) (backup_of view_id all)
+    (subst IsSome (ap (find (is_takeover view_id.id view_id.view)) is ∙ takeover-found view_id.id view_id.view all) h)
 
-pub backup-none : (turn : Turn) (all : List BackupView) (column : ColumnState) → column.takeovers ≡ takeovers_of all → takeover_of column turn.id turn.view ≡ None → backup_of turn all ≡ None
-backup-none turn all column is none =
-    none-from_map (λ (b : BackupView). b.of) (backup_of turn all) (sym (ap (find (is_takeover turn.id turn.view)) is ∙ takeover-found turn.id turn.view all) ∙ none)
+pub backup-none : (view_id : ViewId) (all : List BackupView) (column : ColumnState) → column.takeovers ≡ takeovers_of all
+    → takeover_of column view_id.id view_id.view ≡ None → backup_of view_id all ≡ None
+backup-none view_id all column is none =
+    None-from_map (λ (b : BackupView). b.of) (backup_of view_id all)
+    (sym (ap (find (is_takeover view_id.id view_id.view)) is ∙ takeover-found view_id.id view_id.view all) ∙ none)
 
-pub pick-there : (f : ℕ) (turn : Turn) (all : List BackupView) (p : Pick) → Each (λ b. b.faults ≡ f) all
-    → IsSomeAnd (find (is_takeover turn.id turn.view) (takeovers_of all)) (λ t. pick f t.state ≡ p) → IsSomeAnd (backup_of turn all) (λ b. pick b.faults b.of.state ≡ p)
-pick-there f turn all p h is = by_found (backup_of turn all) refl (subst (λ o. IsSomeAnd o (λ (t : TakeoverOf). pick f t.state ≡ p)) (takeover-found turn.id turn.view all) is)
+pub pick-there : (f : ℕ) (view_id : ViewId) (all : List BackupView) (p : Pick) → Each (λ b. b.faults ≡ f) all
+    → IsSomeAnd (find (is_takeover view_id.id view_id.view) (takeovers_of all)) (λ t. pick f t.state ≡ p)
+    → IsSomeAnd (backup_of view_id all) (λ b. pick b.faults b.of.state ≡ p)
+pick-there f view_id all p h is =
+    by_found (backup_of view_id all) refl (subst (λ o. IsSomeAnd o (λ (t : TakeoverOf). pick f t.state ≡ p)) (takeover-found view_id.id view_id.view all) is)
   where
-    by_found : (o : Option BackupView) → backup_of turn all ≡ o → IsSomeAnd (option_map (λ (b : BackupView). b.of) o) (λ t. pick f t.state ≡ p) → IsSomeAnd o (λ b. pick b.faults b.of.state ≡ p)
+    by_found : (o : Option BackupView) → backup_of view_id all ≡ o → IsSomeAnd (option_map (λ (b : BackupView). b.of) o) (λ t. pick f t.state ≡ p)
+        → IsSomeAnd o (λ b. pick b.faults b.of.state ≡ p)
     by_found None e given = given
-    by_found (Some b) e given = ap (λ n. pick n b.of.state) (Each-find (λ (x : BackupView). x.faults ≡ f) (λ x. is_takeover turn.id turn.view x.of) all b h e) ∙ given
+    by_found (Some b) e given =
+        ap (λ n. pick n b.of.state) (Each-find (λ (x : BackupView). x.faults ≡ f) (λ x. is_takeover view_id.id view_id.view x.of) all b h e) ∙ given
 
-pub pick-some : (f : ℕ) (turn : Turn) (all : List BackupView) (b : BackupView) → Each (λ b. b.faults ≡ f) all → backup_of turn all ≡ Some b
-    → option_map (λ t. pick f t.state) (find (is_takeover turn.id turn.view) (takeovers_of all)) ≡ Some (pick b.faults b.of.state)
-pick-some f turn all b h found =
-    ap (option_map (λ (t : TakeoverOf). pick f t.state)) (takeover-found turn.id turn.view all ∙ ap (option_map (λ (x : BackupView). x.of)) found)
-    ∙ ap (λ n. Some (pick n b.of.state)) (sym (Each-find (λ (x : BackupView). x.faults ≡ f) (λ x. is_takeover turn.id turn.view x.of) all b h found))
+pub pick-some : (f : ℕ) (view_id : ViewId) (all : List BackupView) (b : BackupView) → Each (λ b. b.faults ≡ f) all → backup_of view_id all ≡ Some b
+    → option_map (λ t. pick f t.state) (find (is_takeover view_id.id view_id.view) (takeovers_of all)) ≡ Some (pick b.faults b.of.state)
+pick-some f view_id all b h found =
+    ap (option_map (λ (t : TakeoverOf). pick f t.state)) (takeover-found view_id.id view_id.view all ∙ ap (option_map (λ (x : BackupView). x.of)) found)
+    ∙ ap (λ n. Some (pick n b.of.state)) (sym (Each-find (λ (x : BackupView). x.faults ≡ f) (λ x. is_takeover view_id.id view_id.view x.of) all b h found))
 
 -- the takeovers after one of them is changed
-pub takeovers-changed : (turn : Turn) (h : TakeoverOf → TakeoverOf) (all : List BackupView) → takeovers_of (change_backup turn (on_backup h) all) ≡ change (is_takeover turn.id turn.view) h (takeovers_of all)
-takeovers-changed turn h all = map-change (λ (b : BackupView). is_takeover turn.id turn.view b.of) (on_backup h) (is_takeover turn.id turn.view) h (λ (b : BackupView). b.of) (λ b. refl) (λ b. refl) all
+pub takeovers-changed : (view_id : ViewId) (h : TakeoverOf → TakeoverOf) (all : List BackupView)
+    → takeovers_of (change_backup view_id (on_backup h) all) ≡ change (is_takeover view_id.id view_id.view) h (takeovers_of all)
+takeovers-changed view_id h all =
+    map-change (λ (b : BackupView). is_takeover view_id.id view_id.view b.of) (on_backup h) (is_takeover view_id.id view_id.view) h (λ (b : BackupView). b.of)
+    (λ b. refl) (λ b. refl) all
 
 -- ---- what is done by a pick
 
 abbrev pub picked_by : ℕ → ℕ → TxnId → ℕ → Pick → ColumnState → ColumnState
-picked_by f epoch id view (Known outcome) column = send (to_all f epoch id view (Decide outcome)) (with_learning (learning id ByTelling outcome) (change_takeover id view closing column))
-picked_by f epoch id view (PickLearned outcome) column = send (to_all f epoch id view (Decide outcome)) (with_learning (learning id (ByPick view) outcome) (change_takeover id view closing column))
-picked_by f epoch id view (PickPropose outcome) column = change_takeover id view (takeover_proposing outcome) (send (to_all f epoch id view (Accept outcome)) column)
+picked_by f epoch id view (Known outcome) column =
+    send (to_all f epoch id view (Decide outcome)) (with_learning (learning id ByTelling outcome) (change_takeover id view closing column))
+picked_by f epoch id view (PickLearned outcome) column =
+    send (to_all f epoch id view (Decide outcome)) (with_learning (learning id (ByPick view) outcome) (change_takeover id view closing column))
+picked_by f epoch id view (PickPropose outcome) column =
+    change_takeover id view (takeover_proposing outcome) (send (to_all f epoch id view (Accept outcome)) column)
 picked_by f epoch id view (PickShort k) column = column
 picked_by f epoch id view (PickUnaccepted k) column = column
 picked_by f epoch id view (Unclear ok not_ok) column = column
 
-picked_by-is : (f : ℕ) (id : TxnId) (view : ℕ) (a : AttemptState) (p : Pick) (column : ColumnState) → picked_by f a.epoch id view p column ≡ record (picked f view (record a { id = id }) p column) { learned = column.learned ++ by_pick id view p }
+picked_by-is : (f : ℕ) (id : TxnId) (view : ℕ) (a : AttemptState) (p : Pick) (column : ColumnState)
+    → picked_by f a.epoch id view p column ≡ record (picked f view (record a { id = id }) p column) { learned = column.learned ++ by_pick id view p }
 picked_by-is f id view a (Known outcome) column = refl
 picked_by-is f id view a (PickLearned outcome) column = refl
 picked_by-is f id view a (PickPropose outcome) column = none-learned (picked_by f a.epoch id view (PickPropose outcome) column) column.learned
@@ -75,13 +97,17 @@ picked_by-is f id view a (PickUnaccepted k) column = none-learned column column.
 picked_by-is f id view a (Unclear ok not_ok) column = none-learned column column.learned
 
 -- the pick is that of the takeover that is found
-picked-found : (round : Setting) (id : TxnId) (view : ℕ) (a : AttemptState) (p : Pick) (column : ColumnState) (o : Option TakeoverOf) → option_map (λ t. pick round.faults t.state) o ≡ Some p
+picked-found : (round : Setting) (id : TxnId) (view : ℕ) (a : AttemptState) (p : Pick) (column : ColumnState) (o : Option TakeoverOf)
+    → option_map (λ t. pick round.faults t.state) o ≡ Some p
     → record (picked round.faults view a p column) { learned = column.learned ++ by_pick id view p }
-    ≡ record (on_some (λ (t : TakeoverOf) col. picked round.faults view a (pick round.faults t.state) col) o column) { learned = column.learned ++ by_takeover round id view o }
+    ≡ record
+    (on_some (λ (t : TakeoverOf) col. picked round.faults view a (pick round.faults t.state) col) o column) { learned = column.learned ++ by_takeover round id view o }
 picked-found round id view a p column None e = absurd (none-some p e)
-picked-found round id view a p column (Some t) e = ap (λ x. record (picked round.faults view a x column) { learned = column.learned ++ by_pick id view x }) (sym (same_Some (pick round.faults t.state) p e))
+picked-found round id view a p column (Some t) e =
+    ap (λ x. record (picked round.faults view a x column) { learned = column.learned ++ by_pick id view x }) (sym (same_Some (pick round.faults t.state) p e))
 
-pub pick-state : (round : Setting) (column : ColumnState) (id : TxnId) (view : ℕ) (s : Attempt) (p : Pick) → option_map shown (attempt_of column id) ≡ Some s → option_map (λ t. pick round.faults t.state) (takeover_of column id view) ≡ Some p
+pub pick-state : (round : Setting) (column : ColumnState) (id : TxnId) (view : ℕ) (s : Attempt) (p : Pick) → option_map shown (attempt_of column id) ≡ Some s
+    → option_map (λ t. pick round.faults t.state) (takeover_of column id view) ≡ Some p
     → picked_by round.faults s.epoch id view p column ≡ column_after round column (PickStep id view)
 pick-state round column id view s p found is = by_found (attempt_of column id) refl found
   where
@@ -101,20 +127,24 @@ takeover-state round column id view s found = by_found (attempt_of column id) re
     begun : ℕ → TxnId → ColumnState
     begun epoch i = send (to_all round.faults epoch i view Ask) (record column { takeovers = column.takeovers ++ (backup_begun round.faults i view).of ∷ [] })
 
-    by_found : (o : Option AttemptState) → attempt_of column id ≡ o → option_map shown o ≡ Some s → begun s.epoch id ≡ record (on_some (taken_over round.faults view) o column) { learned = column.learned ++ [] }
+    by_found : (o : Option AttemptState) → attempt_of column id ≡ o → option_map shown o ≡ Some s
+        → begun s.epoch id ≡ record (on_some (taken_over round.faults view) o column) { learned = column.learned ++ [] }
     by_found None there e = absurd (none-some s e)
     by_found (Some a) there e =
-        ap (λ (x : Attempt). begun x.epoch id) (sym (same_Some (shown a) s e)) ∙ ap (begun a.epoch) (sym (attempt-named column id a there)) ∙ none-learned (begun a.epoch a.id) column.learned
+        ap (λ (x : Attempt). begun x.epoch id) (sym (same_Some (shown a) s e)) ∙ ap (begun a.epoch) (sym (attempt-named column id a there))
+        ∙ none-learned (begun a.epoch a.id) column.learned
 
 -- ---- what is heard
 
 -- a takeover that is there is made for the column's replicas
-pub backup-sized : (f r : ℕ) (turn : Turn) (all : List BackupView) → Each (λ b. b.faults ≡ f) all → r < members f → IsSome (backup_of turn all) → IsSomeAnd (backup_of turn all) (λ b. r < members b.faults)
-backup-sized f r turn all h lt there = by_found (backup_of turn all) refl there
+pub backup-sized : (f r : ℕ) (view_id : ViewId) (all : List BackupView) → Each (λ b. b.faults ≡ f) all → r < members f → IsSome (backup_of view_id all)
+    → IsSomeAnd (backup_of view_id all) (λ b. r < members b.faults)
+backup-sized f r view_id all h lt there = by_found (backup_of view_id all) refl there
   where
-    by_found : (o : Option BackupView) → backup_of turn all ≡ o → IsSome o → IsSomeAnd o (λ b. r < members b.faults)
+    by_found : (o : Option BackupView) → backup_of view_id all ≡ o → IsSome o → IsSomeAnd o (λ b. r < members b.faults)
     by_found None e k = absurd (cc k)
-    by_found (Some b) e k = subst (λ n. r < members n) (sym (Each-find (λ (x : BackupView). x.faults ≡ f) (λ x. is_takeover turn.id turn.view x.of) all b h e)) lt
+    by_found (Some b) e k =
+        subst (λ n. r < members n) (sym (Each-find (λ (x : BackupView). x.faults ≡ f) (λ x. is_takeover view_id.id view_id.view x.of) all b h e)) lt
 
 -- an answer leaves a takeover's attempt
 pub answered-keeps : (r : ℕ) (body : Body) (t : TakeoverOf) → (takeover_answered r body t).id ≡ t.id
@@ -124,37 +154,26 @@ answered-keeps r body t = by_test t.closed
     by_test true = refl
     by_test false = refl
 
--- where nobody is found, a change changes nothing
-pub change-unfound : {X : Type 0} (p : X → Bool) (f : X → X) (xs : List X) → find p xs ≡ None → change p f xs ≡ xs
-change-unfound p f [] e = refl
-change-unfound p f (x ∷ xs) e = by_test (p x) (change-unfound p f xs) e
-  where
-    by_test : (b : Bool) → (find p xs ≡ None → change p f xs ≡ xs) → cond b (Some x) (find p xs) ≡ None → cond b (f x) x ∷ change p f xs ≡ x ∷ xs
-    by_test true more e = absurd (none-some x (sym e))
-    by_test false more e = ap (λ ys. x ∷ ys) (more e)
-
-if_not : {A : Type 0} (b : Bool) (x y : A) → b ≡ false → cond b x y ≡ y
-if_not true x y e = absurd (cc e)
-if_not false x y e = refl
-
 -- an answer that is not heard teaches nothing
-pub unheard-teaches : (round : Setting) (column : ColumnState) (msg : Msg) (body : Body) → goes_to_replica body ≡ false → is_heard round column msg ≡ false → by_message round column msg body ≡ []
+pub unheard-teaches : (round : Setting) (column : ColumnState) (msg : Msg) (body : Body) → goes_to_replica body ≡ false → is_heard round column msg ≡ false
+    → by_message round column msg body ≡ []
 unheard-teaches round column msg (Voted vote) goes e = refl
 unheard-teaches round column msg AcceptedBody goes e = refl
-unheard-teaches round column msg (ToldBody told) goes e = if_not _ _ _ e
-unheard-teaches round column msg (MovedBody moved) goes e = if_not _ _ _ e
+unheard-teaches round column msg (ToldBody told) goes e = cond-false _ _ _ e
+unheard-teaches round column msg (MovedBody moved) goes e = cond-false _ _ _ e
 unheard-teaches round column msg (ValidateBody mark) goes e = absurd (cc goes)
 unheard-teaches round column msg (Accept outcome) goes e = absurd (cc goes)
 unheard-teaches round column msg (Decide outcome) goes e = absurd (cc goes)
 unheard-teaches round column msg Ask goes e = absurd (cc goes)
 
 -- a view above 0 whose takeover is not there or not led hears nothing
-pub unheard-state : (round : Setting) (column : ColumnState) (msg : Msg) → (msg.view == 0) ≡ false → goes_to_replica msg.body ≡ false → (is_led round msg.epoch msg.view && is_some (takeover_of column msg.id msg.view)) ≡ false
+pub unheard-state : (round : Setting) (column : ColumnState) (msg : Msg) → (msg.view == 0) ≡ false → goes_to_replica msg.body ≡ false
+    → (is_led round msg.epoch msg.view && is_some (takeover_of column msg.id msg.view)) ≡ false
     → column ≡ heard_taken round msg column
 unheard-state round column msg above goes e = by_led (is_led round msg.epoch msg.view) (takeover_of column msg.id msg.view) refl refl e
   where
     to_takeover : answer_taken round msg column ≡ takeover_heard round msg column
-    to_takeover = if_not _ _ _ above
+    to_takeover = cond-false _ _ _ above
 
     silent : column ≡ takeover_heard round msg column → is_heard round column msg ≡ false → column ≡ heard_taken round msg column
     silent same unheard =
@@ -162,25 +181,30 @@ unheard-state round column msg above goes e = by_led (is_led round msg.epoch msg
         ∙ ap (λ (l : List Learning). record column { learned = column.learned ++ l }) (sym (unheard-teaches round column msg msg.body goes unheard))
         ∙ ap (λ (after : ColumnState). record after { learned = column.learned ++ by_message round column msg msg.body }) (same ∙ sym to_takeover)
 
-    by_led : (b : Bool) (o : Option TakeoverOf) → is_led round msg.epoch msg.view ≡ b → takeover_of column msg.id msg.view ≡ o → (b && is_some o) ≡ false → column ≡ heard_taken round msg column
-    by_led false o led there k = silent (sym (if_not _ _ _ led)) (if_not _ _ _ above ∙ ap (λ b. b && passes (λ t. not t.closed) (takeover_of column msg.id msg.view)) led)
+    by_led : (b : Bool) (o : Option TakeoverOf) → is_led round msg.epoch msg.view ≡ b → takeover_of column msg.id msg.view ≡ o → (b && is_some o) ≡ false
+        → column ≡ heard_taken round msg column
+    by_led false o led there k =
+        silent (sym (cond-false _ _ _ led)) (cond-false _ _ _ above ∙ ap (λ b. b && passes (λ t. not t.closed) (takeover_of column msg.id msg.view)) led)
     by_led true None led there k =
         silent (sym (ap (λ b. cond b (change_takeover msg.id msg.view (takeover_answered msg.replica msg.body) column) column) led
-        ∙ ap (λ (all : List TakeoverOf). record column { takeovers = all }) (change-unfound (is_takeover msg.id msg.view) (takeover_answered msg.replica msg.body) column.takeovers there)))
-        (if_not _ _ _ above ∙ ap (λ b. b && passes (λ t. not t.closed) (takeover_of column msg.id msg.view)) led ∙ ap (passes (λ (t : TakeoverOf). not t.closed)) there)
+        ∙ ap (λ (all : List TakeoverOf). record column { takeovers = all }) (change-none (is_takeover msg.id msg.view) (takeover_answered msg.replica msg.body) column.takeovers there)))
+        (cond-false _ _ _ above ∙ ap (λ b. b && passes (λ t. not t.closed) (takeover_of column msg.id msg.view)) led ∙ ap (passes (λ (t : TakeoverOf). not t.closed)) there)
     by_led true (Some t) led there k = absurd (cc k)
 
 -- the attempt of a takeover that is there is known
-pub taker-known : (turn : Turn) (all : List BackupView) (attempts : List BegunView) → Each (λ b. IsSome (begun_of b.of.id attempts)) all → IsSome (backup_of turn all) → IsSome (begun_of turn.id attempts)
-taker-known turn all attempts h there = by_found (backup_of turn all) refl there
+pub taker-known : (view_id : ViewId) (all : List BackupView) (attempts : List BegunView) → Each (λ b. IsSome (begun_of b.of.id attempts)) all
+    → IsSome (backup_of view_id all) → IsSome (begun_of view_id.id attempts)
+taker-known view_id all attempts h there = by_found (backup_of view_id all) refl there
   where
     first-of : (a b : Bool) → (a && b) ≡ true → a ≡ true
     first-of true b e = refl
     first-of false b e = absurd (cc e)
 
-    by_found : (o : Option BackupView) → backup_of turn all ≡ o → IsSome o → IsSome (begun_of turn.id attempts)
+    by_found : (o : Option BackupView) → backup_of view_id all ≡ o → IsSome o → IsSome (begun_of view_id.id attempts)
     by_found None e k = absurd (cc k)
     by_found (Some b) e k =
-        let here = first-of (same_id b.of.id turn.id) (b.of.state.view == turn.view) (find-passes (λ (x : BackupView). is_takeover turn.id turn.view x.of) all b e) in
-        subst (λ i. IsSome (begun_of i attempts)) (same_id-tells b.of.id turn.id here)
-        (Each-find (λ (x : BackupView). IsSome (begun_of x.of.id attempts)) (λ x. is_takeover turn.id turn.view x.of) all b h e)
+        let here =
+        first-of (same_id b.of.id view_id.id) (b.of.state.view == view_id.view)
+        (find-passes (λ (x : BackupView). is_takeover view_id.id view_id.view x.of) all b e) in
+        subst (λ i. IsSome (begun_of i attempts)) (same_id-tells b.of.id view_id.id here)
+        (Each-find (λ (x : BackupView). IsSome (begun_of x.of.id attempts)) (λ x. is_takeover view_id.id view_id.view x.of) all b h e)

@@ -5,9 +5,9 @@ use Rattle.mk_lists.specs.Changed.{change}
 use Rattle.mk_txn.specs.declared.TxnId.{TxnId}
 use Rattle.mk_txn.specs.Transactions.{same_id}
 use Rattle.mk_txn.specs.declared.Outcome.{Outcome}
-use Rattle.mk_coord.specs.Rulings.{CoordState}
+use Rattle.mk_words.specs.Rulings.{CoordState}
 use Rattle.mk_column.specs.declared.Attempt.{Attempt}
-use Rattle.mk_column.specs.ColumnState.{AttemptState}
+use Rattle.mk_model.specs.ColumnState.{AttemptState}
 
 -- an attempt, for how many faults its coordinator is made, whether a Validate of it was sent, and the first outcome
 -- that its coordinator or a takeover learned

@@ -4,7 +4,7 @@ use Rattle.std.specs.Borrow.{Bor}
 use Rattle.mk_lists.specs.Changed.{change}
 use Rattle.mk_txn.specs.declared.TxnId.{TxnId}
 use Rattle.mk_column.specs.declared.clients.Client.{Client}
-use Rattle.mk_column.specs.ColumnState.{ClientState}
+use Rattle.mk_model.specs.ColumnState.{ClientState}
 
 -- a client that has begun nothing
 abbrev pub fresh_client : ℕ → Client

@@ -6,29 +6,32 @@ use Rattle.mk_lists.specs.Among.{Each}
 use Rattle.mk_txn.specs.declared.TxnId.{TxnId}
 use Rattle.mk_txn.specs.declared.Outcome.{Outcome}
 use Rattle.mk_txn.specs.Transactions.{Transaction}
-use Rattle.mk_msg.specs.declared.Msg.{Msg}
-use Rattle.mk_msg.specs.declared.Body.{Body}
-use Rattle.mk_msg.specs.declared.Body.TheVariants.{Told as ToldBody, Moved as MovedBody}
-use Rattle.mk_column.specs.Answers.{moved_outcome}
+use Rattle.mk_words.specs.declared.Msg.{Msg}
+use Rattle.mk_words.specs.declared.Body.{Body}
+use Rattle.mk_words.specs.declared.Body.TheVariants.{Told as ToldBody, Moved as MovedBody}
+use Rattle.mk_model.specs.Answers.{moved_outcome}
 use Rattle.mk_quorum.specs.Sizes.{members}
 use Rattle.mk_quorum.specs.Slots.{passes}
 use Rattle.mk_trim.specs.SettledAttempts.{SettledAttempts, is_settled as is_kept_settled}
-use Rattle.mk_column.specs.declared.Step.{Step}
+use Rattle.mk_words.specs.declared.Step.{Step}
 use Rattle.mk_column.specs.declared.clients.Client.{Client}
 use Rattle.mk_column.specs.declared.work.Work.{Work as KeptWork}
 use Rattle.mk_column.specs.declared.work.Work.TheVariants.{Idle as KeptIdle, Fetching as KeptFetching, Validating as KeptValidating, Finishing as KeptFinishing}
-use Rattle.mk_record.specs.Entries.{entry_of, may_vote}
+use Rattle.mk_words.specs.Entries.{entry_of, may_vote}
 use Rattle.mk_column.specs.declared.learned.Way.{Way as KeptWay}
-use Rattle.mk_column.specs.declared.learned.Way.TheVariants.{Votes, Accepts, Pick, Moved, Telling, Finishing}
+use Rattle.mk_column.specs.declared.learned.Way.TheVariants.{Votes, Accepts, Pick, Moved, Telling, Finishing as KeptFinished}
 use Rattle.mk_column.specs.declared.learned.Learned.{Learned}
-use Rattle.mk_column.specs.ColumnState.{Setting, ColumnState, Learning, Way, new_column, is_settled}
-use Rattle.mk_column.specs.ColumnState.Way.{ByVotes, ByAccepts, ByPick, ByMoved, ByTelling, ByFinishing}
-use Rattle.mk_column.specs.Replicas.{Held}
-use Rattle.mk_column.specs.Conditions.{is_validate_of, may_read}
-use Rattle.mk_column.specs.Learnings.{learning, is_decision_of}
+use Rattle.mk_column.specs.declared.parts.Parts.{Parts}
+use Rattle.mk_model.specs.ColumnState.{Setting, ColumnState, Learning, Way, new_column, is_settled}
+use Rattle.mk_model.specs.ColumnState.Way.{ByVotes, ByAccepts, ByPick, ByMoved, ByTelling, ByFinishing}
+use Rattle.mk_model.specs.Replicas.{Held}
+use Rattle.mk_model.specs.ColumnState.Work.{Finishing}
+use Rattle.mk_model.specs.Conditions.{is_validate_of, may_read, wanted}
+use Rattle.mk_words.specs.Validations.{next_act, validation_of}
+use Rattle.mk_model.specs.Learnings.{learning, is_decision_of}
 use Rattle.mk_column.specs.HeldByCode.{work_of}
 use Rattle.mk_column.specs.AttemptsByCode.{BegunView, begun_of, change_begun, on_state, states_of}
-use Rattle.mk_column.specs.Steps.{taught}
+use Rattle.mk_model.specs.Steps.{taught}
 use Rattle.mk_column.specs.TakeoversByCode.{BackupView, takeovers_of}
 use Rattle.mk_column.specs.ClientsByCode.{client_states, kept_client}
 
@@ -50,7 +53,7 @@ way_of Accepts = ByAccepts
 way_of (Pick view) = ByPick view
 way_of (Moved epoch) = ByMoved epoch
 way_of Telling = ByTelling
-way_of Finishing = ByFinishing
+way_of KeptFinished = ByFinishing
 
 -- what an answer teaches, and how
 abbrev pub lesson_in : Body → Option (Outcome × KeptWay)
@@ -69,11 +72,12 @@ learning_of_kept learned = record { id = learned.id; outcome = learned.outcome; 
 
 -- the attempts once the own coordinator of this one has learned the outcome
 abbrev pub own_learned : TxnId → Outcome → List BegunView → List BegunView
-own_learned id outcome all = change_begun id (λ begun. record begun { decided = option_or begun.decided (Some outcome) }) (change_begun id (on_state (taught outcome)) all)
+own_learned id outcome all =
+    change_begun id (λ begun. record begun { decided = option_or begun.decided (Some outcome) }) (change_begun id (on_state (taught outcome)) all)
 
 -- what is kept where a replica finished, and else nothing
 abbrev pub finish_kept : TxnId → Option Outcome → List Learned
-finish_kept id (Some outcome) = record { id = id; outcome = outcome; way = Finishing } ∷ []
+finish_kept id (Some outcome) = record { id = id; outcome = outcome; way = KeptFinished } ∷ []
 finish_kept id None = []
 
 -- the parts of a column that change in its steps
@@ -85,6 +89,19 @@ pub record Kept : Type 0 where
   pub link : List Msg
   pub work : KeptWork
   pub learned : List Learned
+
+-- what contracts see of the parts that the code keeps
+abbrev pub kept_of : Parts → Kept
+kept_of parts =
+    record {
+      clients = parts.clients;
+      attempts = parts.attempts;
+      takeovers = parts.takeovers;
+      replicas = parts.replicas.items;
+      link = parts.link.messages;
+      work = parts.work;
+      learned = parts.learned.items;
+    }
 
 -- the column of these parts
 abbrev pub column_of : Kept → ColumnState
@@ -116,20 +133,21 @@ MayVoteAt r id replicas = IsSomeAnd (entry_of id (slice_index_or replicas r (rec
 abbrev pub MayRead : ℕ → Option BegunView → Type 0
 MayRead key begun = IsSomeAnd begun (λ b. may_read key b.state ≡ true)
 
--- what the key calls under way keep: the attempt that is read for may read the key, and the entry that is validated
--- may vote
+-- what the key calls under way keep: the attempt that is read for may read the key, the entry that is validated may
+-- vote, and an act of a validation or of an end is left
 abbrev pub WorkFits : ℕ → List BegunView → List Held → KeptWork → Type 0
 WorkFits n attempts replicas KeptIdle = Unit {0}
 WorkFits n attempts replicas (KeptFetching id replica key) = MayRead key (begun_of id attempts)
-WorkFits n attempts replicas (KeptValidating txn replica epoch state) = (replica < n) × MayVoteAt replica txn.id replicas
-WorkFits n attempts replicas (KeptFinishing replica left) = Unit {0}
+WorkFits n attempts replicas (KeptValidating txn replica epoch state) = (replica < n) × MayVoteAt replica txn.id replicas × IsSome (next_act state)
+WorkFits n attempts replicas (KeptFinishing replica left) = IsSome (wanted (Finishing replica left))
 
--- what each attempt keeps: its flags are what was sent and learned, and its transaction has its number
+-- what each attempt keeps: its flags are what was sent and learned, and its transaction has its number and an act
 pub record AttemptFits (f : ℕ) (link : List Msg) (learned : List Learning) (begun : BegunView) : Type 0 where
   pub faults : begun.faults ≡ f
   pub validated : begun.validated ≡ list_any (is_validate_of begun.state.id) link
   pub decided : begun.decided ≡ first_decision learned begun.state.id
   pub named : (txn : Transaction) → begun.state.txn ≡ Some txn → txn.id ≡ begun.state.id
+  pub acts : (txn : Transaction) → begun.state.txn ≡ Some txn → IsSome (next_act (validation_of txn))
   pub unstamped : begun.state.reading ≡ true → begun.state.txn ≡ None
   pub seq : begun.state.id.seq ≤ 16384
 

@@ -2,18 +2,18 @@
 use Rattle.std.specs.Prelude.{Bool, true, false, List, [], ◌∷◌, Option, Some, None}
 use Rattle.mk_txn.specs.declared.Outcome.{Outcome}
 use Rattle.mk_txn.specs.declared.Vote.{Vote}
-use Rattle.mk_record.specs.declared.Entry.{Entry}
+use Rattle.mk_words.specs.declared.Entry.{Entry}
 use Rattle.mk_record.specs.declared.RecordError.{RecordError}
 use Rattle.mk_record.specs.declared.RecordError.TheVariants.{Finished, OldView}
-use Rattle.mk_msg.specs.declared.Told.{Told}
-use Rattle.mk_msg.specs.declared.Msg.{Msg}
-use Rattle.mk_msg.specs.declared.Body.{Body}
-use Rattle.mk_msg.specs.declared.Body.TheVariants.{Validate as ValidateBody, Voted, Accept, Accepted as AcceptedBody, Decide, Ask, Told as ToldBody, Moved as MovedBody}
+use Rattle.mk_words.specs.declared.Told.{Told}
+use Rattle.mk_words.specs.declared.Msg.{Msg}
+use Rattle.mk_words.specs.declared.Body.{Body}
+use Rattle.mk_words.specs.declared.Body.TheVariants.{Validate as ValidateBody, Voted, Accept, Accepted as AcceptedBody, Decide, Ask, Told as ToldBody, Moved as MovedBody}
 use Rattle.mk_column.specs.declared.work.Work.{Work as KeptWork}
 use Rattle.mk_column.specs.declared.work.Work.TheVariants.{Idle as KeptIdle, Fetching as KeptFetching, Validating as KeptValidating, Finishing as KeptFinishing}
-use Rattle.mk_column.specs.ColumnState.{Work}
-use Rattle.mk_column.specs.ColumnState.Work.{Idle, Fetching, Validating, Finishing}
-use Rattle.mk_column.specs.Replicas.{Held, Reaction, reply, ignored, answering, told_of}
+use Rattle.mk_model.specs.ColumnState.{Work}
+use Rattle.mk_model.specs.ColumnState.Work.{Idle, Fetching, Validating, Finishing}
+use Rattle.mk_model.specs.Replicas.{Held, Reaction, reply, ignored, answering, told_of}
 
 -- the key calls under way
 abbrev pub work_of : KeptWork → Work

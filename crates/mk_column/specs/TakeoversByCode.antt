@@ -1,14 +1,12 @@
 -- What the code keeps of a takeover.
 use Rattle.std.specs.Prelude.{ℕ, Bool, ◌&&◌, ◌==◌, false, List, Option, find, map, option_map, option_copied}
 use Rattle.std.specs.Borrow.{Bor}
-use Rattle.std.specs.declared.cmp.Ordering.{Ordering}
-use Rattle.std.specs.Ordering.{nat_cmp, ordering_then}
 use Rattle.mk_lists.specs.Changed.{change}
 use Rattle.mk_txn.specs.declared.TxnId.{TxnId}
-use Rattle.mk_txn.specs.Transactions.{same_id, id_cmp}
-use Rattle.mk_takeover.specs.Picks.{new_takeover}
-use Rattle.mk_column.specs.declared.backup.Turn.{Turn}
-use Rattle.mk_column.specs.ColumnState.{TakeoverOf, is_takeover}
+use Rattle.mk_txn.specs.Transactions.{same_id}
+use Rattle.mk_words.specs.Picks.{new_takeover}
+use Rattle.mk_column.specs.declared.backup.ViewId.{ViewId}
+use Rattle.mk_model.specs.ColumnState.{TakeoverOf, is_takeover}
 
 -- a takeover, and for how many faults it is made
 pub record BackupView : Type 0 where
@@ -24,24 +22,20 @@ abbrev pub on_backup : (TakeoverOf → TakeoverOf) → BackupView → BackupView
 on_backup f backup = record backup { of = f backup.of }
 
 -- whether two turns are one
-abbrev pub same_turn : Turn → Turn → Bool
-same_turn a b = same_id a.id b.id && a.view == b.view
-
--- by attempt, and then by view
-abbrev pub turn_cmp : Turn → Turn → Ordering
-turn_cmp a b = ordering_then (id_cmp a.id b.id) (nat_cmp a.view b.view)
+abbrev pub same_view_id : ViewId → ViewId → Bool
+same_view_id a b = same_id a.id b.id && a.view == b.view
 
 -- the attempt and the view of a takeover
-abbrev pub turn_of : BackupView → Turn
-turn_of backup = record { id = backup.of.id; view = backup.of.state.view }
+abbrev pub view_id_of : BackupView → ViewId
+view_id_of backup = record { id = backup.of.id; view = backup.of.state.view }
 
 -- the takeover of this attempt at this view
-abbrev pub backup_of : Turn → List BackupView → Option BackupView
-backup_of turn all = find (λ backup. is_takeover turn.id turn.view backup.of) all
+abbrev pub backup_of : ViewId → List BackupView → Option BackupView
+backup_of view_id all = find (λ backup. is_takeover view_id.id view_id.view backup.of) all
 
 -- the takeover of this attempt at this view is changed, and no other
-abbrev pub change_backup : Turn → (BackupView → BackupView) → List BackupView → List BackupView
-change_backup turn f all = change (λ backup. is_takeover turn.id turn.view backup.of) f all
+abbrev pub change_backup : ViewId → (BackupView → BackupView) → List BackupView → List BackupView
+change_backup view_id f all = change (λ backup. is_takeover view_id.id view_id.view backup.of) f all
 
 -- the takeovers as the definitions have them
 abbrev pub takeovers_of : List BackupView → List TakeoverOf

@@ -1,19 +1,19 @@
 //! Key calls are asked for and answered.
 ghost use Rattle.std.specs.Prelude.{◌≡◌, ◌<◌, true, None, Some, OnOk, OnErr, IsSomeAnd};
-ghost use Rattle.mk_cell.specs.Acts.{answer_fits};
-ghost use Rattle.mk_cell.specs.declared.Act.TheVariants.{Get};
-ghost use Rattle.mk_column.specs.declared.Step.TheVariants.{Key, Read};
-ghost use Rattle.mk_column.specs.ColumnState.{attempt_of};
-ghost use Rattle.mk_column.specs.Conditions.{blocked as blocked_by, may_read};
-ghost use Rattle.mk_column.specs.Steps.{column_after, fetched, answered, is_validating, is_at_end};
+ghost use Rattle.mk_words.specs.Acts.{answer_fits};
+ghost use Rattle.mk_words.specs.declared.Act.TheVariants.{Get};
+ghost use Rattle.mk_words.specs.declared.Step.TheVariants.{Key, Read};
+ghost use Rattle.mk_model.specs.ColumnState.{attempt_of};
+ghost use Rattle.mk_model.specs.Conditions.{blocked as blocked_by, may_read};
+ghost use Rattle.mk_model.specs.Steps.{column_after, fetched, answered, is_validating};
+ghost use Rattle.mk_column.specs.StepsByCode.{is_at_end};
 
 use crate::KeyCall;
 use crate::column::Column;
 use crate::replica::finishing;
 use crate::work::Work;
-use mk_cell::Answer;
-use mk_msg::{Body, Msg};
 use mk_txn::{NoMemory, ReadItem, TxnId};
+use mk_words::{Answer, Body, Msg};
 
 impl Column {
     // The attempt asks for the key's value at its replica.
@@ -21,8 +21,8 @@ impl Column {
         requires { blocked_by self.old.setting self.old.state (Read id key) ≡ None }
         ensures { self.new ≡ record self.old { state = column_after self.old.setting self.old.state (Read id key) } }
     {
-        let replica = self.attempts.find(id).unwrap().shown().replica;
-        self.work = Work::Fetching { id, replica, key };
+        let replica = self.parts.attempts.find(id).unwrap().shown().replica;
+        self.parts.work = Work::Fetching { id, replica, key };
     }
 
     // The wanted key call is answered.
@@ -31,7 +31,7 @@ impl Column {
         ensures ok { OnOk result (self.new ≡ record self.old { state = column_after self.old.setting self.old.state (Key call.now answer) }) }
         ensures err { OnErr result (self.new ≡ self.old) }
     {
-        match &self.work {
+        match &self.parts.work {
             Work::Idle => unreachable!(),
             Work::Fetching { id, key, .. } => {
                 let (id, key) = (*id, *key);
@@ -60,8 +60,8 @@ impl Column {
             version,
             value,
         };
-        self.attempts.read(id, item)?;
-        self.work = Work::Idle;
+        self.parts.attempts.read(id, item)?;
+        self.parts.work = Work::Idle;
         Ok(())
     }
 
@@ -71,8 +71,8 @@ impl Column {
         ensures ok { OnOk result (self.new ≡ record self.old { state = answered answer self.old.state.work self.old.state }) }
         ensures err { OnErr result (self.new ≡ self.old) }
     {
-        self.link.reserve(1)?;
-        let work = std::mem::replace(&mut self.work, Work::Idle);
+        self.parts.link.reserve(1)?;
+        let work = std::mem::replace(&mut self.parts.work, Work::Idle);
         let Work::Validating {
             txn,
             replica,
@@ -85,7 +85,7 @@ impl Column {
         let mut state = state;
         state.take(answer);
         let Some(vote) = state.vote() else {
-            self.work = Work::Validating {
+            self.parts.work = Work::Validating {
                 txn,
                 replica,
                 epoch,
@@ -94,7 +94,7 @@ impl Column {
             return Ok(());
         };
         let id = txn.id();
-        self.replicas[replica as usize].vote(id, vote);
+        self.parts.replicas[replica as usize].vote(id, vote);
         let msg = Msg {
             epoch,
             id,
@@ -102,7 +102,7 @@ impl Column {
             view: 0,
             body: Body::Voted(vote),
         };
-        if self.link.send(msg).is_err() {
+        if self.parts.link.send(msg).is_err() {
             unreachable!();
         }
         Ok(())
@@ -113,12 +113,12 @@ impl Column {
         requires { is_at_end self.old.state.work ≡ true }
         ensures { self.new ≡ record self.old { state = answered answer self.old.state.work self.old.state } }
     {
-        let work = std::mem::replace(&mut self.work, Work::Idle);
+        let work = std::mem::replace(&mut self.parts.work, Work::Idle);
         let Work::Finishing { replica, left } = work else {
             unreachable!();
         };
         let mut left = left;
         left.take(answer);
-        self.work = finishing(replica, left);
+        self.parts.work = finishing(replica, left);
     }
 }

@@ -2,40 +2,39 @@
 ghost use Rattle.std.specs.Prelude.{◌≡◌, ◌<◌, List, ◌∷◌, ◌++◌, [], true, false, None, Some, length, map, slice_index_or, slice_set, option_copied, option_and_then, IsSome, IsSomeAnd, OnOk, OnErr};
 ghost use Rattle.std.specs.Option.{option_or};
 ghost use Rattle.mk_quorum.specs.Sizes.{members};
-ghost use Rattle.mk_coord.specs.declared.Ruling.TheVariants.{Propose};
-ghost use Rattle.mk_coord.specs.Rulings.{ruling as ruling_of};
-ghost use Rattle.mk_column.specs.Conditions.{may_read};
-ghost use Rattle.mk_column.specs.Answers.{attempt_answered};
-ghost use Rattle.mk_column.specs.Steps.{proposing, taught};
-ghost use Rattle.mk_column.specs.Logs.{not_reading};
+ghost use Rattle.mk_words.specs.declared.Ruling.TheVariants.{Propose};
+ghost use Rattle.mk_words.specs.Rulings.{ruling as ruling_of};
+ghost use Rattle.mk_model.specs.Conditions.{may_read};
+ghost use Rattle.mk_model.specs.Answers.{attempt_answered};
+ghost use Rattle.mk_model.specs.Steps.{proposing, taught};
+ghost use Rattle.mk_model.specs.Logs.{not_reading};
 ghost use Rattle.mk_column.specs.AttemptsByCode.{BegunView as OneBegun, on_state, begun_of, change_begun};
 
 use crate::begun::Begun;
-use mk_msg::Body;
+use indexmap::IndexSet;
 use mk_txn::{NoMemory, Outcome, ReadItem, Txn, TxnId};
+use mk_words::Body;
 use std::alloc::Global;
-use std::collections::BTreeMap;
 use std::marker::Model;
 
 /// The attempts in the order in which they began.
-#[derive(Drop, Debug)]
+#[derive(Drop)]
 pub(crate) struct Attempts {
     items: Vec<Begun>,
-    // where the attempt of each number stands
-    places: BTreeMap<TxnId, usize>,
+    // the number of each attempt, at its place
+    ids: IndexSet<TxnId>,
 }
 
 impl Model for Attempts {
-    ghost use Rattle.std.specs.Prelude.{List, map};
-    ghost use Rattle.mk_txn.specs.Transactions.{same_id, id_cmp};
+    ghost use Rattle.std.specs.Prelude.{List};
     ghost use Rattle.mk_column.specs.AttemptsByCode.{BegunView, begun_id};
-    ghost use Rattle.mk_column.specs.Tables.{IsIndexed};
+    ghost use Rattle.mk_lists.specs.Keyed.{IsIndex};
 
     ghost Value = { List BegunView };
 
     ghost view = { λ attempts. attempts.items.items };
 
-    ghost invariant = { λ attempts. IsIndexed same_id id_cmp (map begun_id attempts.items.items) attempts.places.entries };
+    ghost invariant = { λ attempts. IsIndex begun_id attempts.items.items attempts.ids.keys };
 }
 
 impl Attempts {
@@ -44,7 +43,7 @@ impl Attempts {
     {
         Attempts {
             items: Vec::new(alloc),
-            places: BTreeMap::new(alloc),
+            ids: IndexSet::new(alloc),
         }
     }
 
@@ -52,8 +51,8 @@ impl Attempts {
     pub(crate) fn find(&self, id: TxnId) -> Option<&Begun>
         ensures { option_copied result ≡ begun_of id self.now }
     {
-        let place = self.places.get(&id)?;
-        self.items.get(*place)
+        let place = self.ids.get_index_of(&id)?;
+        self.items.get(place)
     }
 
     /// The transaction of this number, once it is stamped.
@@ -73,11 +72,8 @@ impl Attempts {
         ensures err { OnErr result (self.new ≡ self.old) }
     {
         self.items.reserve(1)?;
-        let id = begun.id();
-        self.places.insert(id, self.items.len())?;
-        if self.items.push(begun).is_err() {
-            unreachable!();
-        }
+        self.ids.insert(begun.id())?;
+        self.items.push_reserved(begun);
         Ok(())
     }
 
@@ -85,8 +81,8 @@ impl Attempts {
     pub(crate) fn pop(&mut self)
         ensures { (all : List OneBegun) (begun : OneBegun) → self.old ≡ all ++ begun ∷ [] → self.new ≡ all }
     {
-        if let Some(begun) = self.items.pop() {
-            self.places.remove(&begun.id());
+        if let Some(_begun) = self.items.pop() {
+            self.ids.truncate(self.items.len());
         }
     }
 
@@ -97,10 +93,7 @@ impl Attempts {
         ensures found { (begun : OneBegun) → begun_of id self.now ≡ Some (slice_index_or self.now result begun) }
         ensures changed { (f : OneBegun → OneBegun) (begun : OneBegun) → change_begun id f self.now ≡ slice_set self.now result (f (slice_index_or self.now result begun)) }
     {
-        match self.places.get(&id) {
-            Some(place) => *place,
-            None => unreachable!(),
-        }
+        self.ids.get_index_of(&id).unwrap()
     }
 
     /// Reading ends, and the transaction is made.

@@ -1,30 +1,30 @@
 //! A takeover of an attempt.
 ghost use Rattle.std.specs.Prelude.{◌≡◌, ◌<◌, ◌≤◌, true, false};
 ghost use Rattle.mk_quorum.specs.Sizes.{members};
-ghost use Rattle.mk_takeover.specs.declared.Pick.TheVariants.{Propose};
-ghost use Rattle.mk_takeover.specs.Picks.{pick as pick_of};
-ghost use Rattle.mk_column.specs.Answers.{takeover_answered, state_answered};
-ghost use Rattle.mk_column.specs.Steps.{closing, takeover_proposing};
-ghost use Rattle.mk_column.specs.TakeoversByCode.{backup_begun, on_backup, turn_of};
+ghost use Rattle.mk_words.specs.declared.Pick.TheVariants.{Propose};
+ghost use Rattle.mk_words.specs.Picks.{pick as pick_of};
+ghost use Rattle.mk_model.specs.Answers.{takeover_answered, state_answered};
+ghost use Rattle.mk_model.specs.Steps.{closing, takeover_proposing};
+ghost use Rattle.mk_column.specs.TakeoversByCode.{backup_begun, on_backup, view_id_of};
 
 use crate::begun::taught_by;
-use mk_msg::Body;
 use mk_quorum::Size;
-use mk_takeover::{Pick, Takeover};
+use mk_takeover::Takeover;
 use mk_txn::{Outcome, TxnId};
+use mk_words::{Body, Pick};
 use std::marker::Model;
 
 /// Which takeover: that of this attempt at this view.
-#[derive(Clone, Copy, Debug, PartialEq, Eq, PartialOrd, Ord)]
-pub(crate) struct Turn {
+#[derive(Clone, Copy, PartialEq, Eq, Hash)]
+pub(crate) struct ViewId {
     pub(crate) id: TxnId,
     pub(crate) view: u32,
 }
 
 /// A takeover of an attempt at a view, and whether it is done.
-#[derive(Drop, Debug)]
+#[derive(Drop)]
 pub(crate) struct Backup {
-    turn: Turn,
+    view_id: ViewId,
     closed: bool,
     takeover: Takeover,
 }
@@ -35,28 +35,28 @@ impl Model for Backup {
 
     ghost Value = { BackupView };
 
-    ghost view = { λ backup. record { faults = backup.takeover.faults; of = record { id = backup.turn.id; closed = backup.closed; state = backup.takeover.state } } };
+    ghost view = { λ backup. record { faults = backup.takeover.faults; of = record { id = backup.view_id.id; closed = backup.closed; state = backup.takeover.state } } };
 
-    ghost invariant = { λ backup. backup.turn.view ≡ backup.takeover.state.view };
+    ghost invariant = { λ backup. backup.view_id.view ≡ backup.takeover.state.view };
 }
 
 impl Backup {
     /// A takeover at this view that has taken nothing.
-    pub(crate) fn begin(size: Size, turn: Turn) -> Backup
-        requires { 1 ≤ turn.view }
-        ensures { result ≡ backup_begun size turn.id turn.view }
+    pub(crate) fn begin(size: Size, view_id: ViewId) -> Backup
+        requires { 1 ≤ view_id.view }
+        ensures { result ≡ backup_begun size view_id.id view_id.view }
     {
         Backup {
-            turn,
+            view_id,
             closed: false,
-            takeover: Takeover::begin(size, turn.view),
+            takeover: Takeover::begin(size, view_id.view),
         }
     }
 
-    pub(crate) fn turn(&self) -> Turn
-        ensures { result ≡ turn_of self.now }
+    pub(crate) fn view_id(&self) -> ViewId
+        ensures { result ≡ view_id_of self.now }
     {
-        self.turn
+        self.view_id
     }
 
     pub(crate) fn is_closed(&self) -> bool

@@ -1,8 +1,8 @@
 //! An attempt begins.
 ghost use Rattle.std.specs.Prelude.{◌≡◌, ◌≤◌, None, true, false, OnOk, OnErr};
-ghost use Rattle.mk_column.specs.declared.Step.TheVariants.{Begin, Unread};
-ghost use Rattle.mk_column.specs.Conditions.{blocked as blocked_by};
-ghost use Rattle.mk_column.specs.Steps.{column_after};
+ghost use Rattle.mk_words.specs.declared.Step.TheVariants.{Begin, Unread};
+ghost use Rattle.mk_model.specs.Conditions.{blocked as blocked_by};
+ghost use Rattle.mk_model.specs.Steps.{column_after};
 ghost use Rattle.mk_column.specs.ClientsByCode.{client_begun, next_of};
 
 use crate::begun::Begun;
@@ -19,11 +19,11 @@ impl Column {
     {
         let alloc = *self.log.allocator();
         let epoch = self.views[replica as usize].epoch;
-        let before = *self.clients.find(client).unwrap();
+        let before = *self.parts.clients.find(client).unwrap();
         let id = next_id(&before);
         let begun = Begun::reading(alloc, self.size, id, replica, epoch);
-        self.attempts.push(begun)?;
-        self.clients.put(after_begin(&before, epoch, true));
+        self.parts.attempts.push(begun)?;
+        self.parts.clients.put(after_begin(&before, epoch, true));
         Ok(())
     }
 
@@ -34,14 +34,16 @@ impl Column {
         ensures err { OnErr result (self.new ≡ self.old) }
     {
         let alloc = *self.log.allocator();
-        let before = *self.clients.find(client).unwrap();
+        let before = *self.parts.clients.find(client).unwrap();
         let id = next_id(&before);
-        self.attempts.push(Begun::unread(alloc, self.size, id))?;
+        self.parts
+            .attempts
+            .push(Begun::unread(alloc, self.size, id))?;
         if self.settled.settle(id).is_err() {
-            self.attempts.pop();
+            self.parts.attempts.pop();
             return Err(NoMemory);
         }
-        self.clients.put(after_begin(&before, 0, false));
+        self.parts.clients.put(after_begin(&before, 0, false));
         Ok(())
     }
 }

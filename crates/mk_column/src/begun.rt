@@ -4,26 +4,27 @@ ghost use Rattle.std.specs.Option.{option_or};
 ghost use Rattle.std.specs.List.{list_any};
 ghost use Rattle.mk_txn.specs.Stamps.{next_stamp_of};
 ghost use Rattle.mk_quorum.specs.Sizes.{members};
-ghost use Rattle.mk_coord.specs.declared.Ruling.TheVariants.{Propose};
-ghost use Rattle.mk_coord.specs.Rulings.{ruling as ruling_of};
+ghost use Rattle.mk_words.specs.declared.Ruling.TheVariants.{Propose};
+ghost use Rattle.mk_words.specs.Rulings.{ruling as ruling_of};
 ghost use Rattle.mk_column.specs.ColumnState.{shown as shown_of};
-ghost use Rattle.mk_column.specs.Conditions.{may_read as may_read_key};
-ghost use Rattle.mk_column.specs.Answers.{moved_outcome, attempt_answered};
-ghost use Rattle.mk_column.specs.Steps.{new_attempt, unread_attempt, proposing, taught, taught_where};
-ghost use Rattle.mk_column.specs.Logs.{not_reading};
+ghost use Rattle.mk_model.specs.Conditions.{may_read as may_read_key};
+ghost use Rattle.mk_model.specs.Answers.{moved_outcome, attempt_answered};
+ghost use Rattle.mk_model.specs.Steps.{new_attempt, unread_attempt, proposing, taught};
+ghost use Rattle.mk_column.specs.StepsByCode.{taught_where};
+ghost use Rattle.mk_model.specs.Logs.{not_reading};
 ghost use Rattle.mk_column.specs.AttemptsByCode.{as_begun, on_state};
 
 use crate::{Attempt, Reads};
-use mk_coord::{Coord, Ruling};
-use mk_msg::{Body, Moved};
+use mk_coord::Coord;
 use mk_quorum::Size;
 use mk_txn::{Cause, Known, NoMemory, Outcome, ReadItem, Stamp, Txn, TxnId, next_stamp};
+use mk_words::{Body, Moved, Ruling};
 use std::alloc::Global;
 use std::marker::Model;
 
 /// An attempt, whether it reads, and what its own coordinator took. `validated` says whether a Validate of it was
 /// sent, and `decided` is the first outcome that its own coordinator or a takeover of it learned.
-#[derive(Drop, Debug)]
+#[derive(Drop)]
 pub(crate) struct Begun {
     shown: Attempt,
     reading: bool,

@@ -4,14 +4,14 @@ ghost use Rattle.mk_lists.specs.Among.{AllDistinct};
 ghost use Rattle.mk_column.specs.declared.clients.Client.{Client as OneClient};
 ghost use Rattle.mk_column.specs.ClientsByCode.{fresh_client, not_reading, kept_client, change_kept};
 
+use indexmap::IndexSet;
 use mk_txn::NoMemory;
 use std::alloc::Global;
-use std::collections::BTreeMap;
 use std::marker::Model;
 
 /// A client: the time of its last stamp, its next place, the highest epoch that it has heard of, and whether an
 /// attempt of it is reading.
-#[derive(Clone, Copy, Debug)]
+#[derive(Clone, Copy)]
 pub(crate) struct Client {
     pub(crate) number: u32,
     pub(crate) last_time: u64,
@@ -21,25 +21,24 @@ pub(crate) struct Client {
 }
 
 /// The clients in the order in which they were named.
-#[derive(Drop, Debug)]
+#[derive(Drop)]
 pub(crate) struct Clients {
     items: Vec<Client>,
-    // where the client of each number stands
-    places: BTreeMap<u32, usize>,
+    // the number of each client, at its place
+    numbers: IndexSet<u32>,
 }
 
 impl Model for Clients {
-    ghost use Rattle.std.specs.Prelude.{List, map};
-    ghost use Rattle.std.specs.Ordering.{nat_cmp};
+    ghost use Rattle.std.specs.Prelude.{List};
     ghost use Rattle.mk_column.specs.declared.clients.Client.{Client};
-    ghost use Rattle.mk_column.specs.ClientsByCode.{number_of, same_number};
-    ghost use Rattle.mk_column.specs.Tables.{IsIndexed};
+    ghost use Rattle.mk_column.specs.ClientsByCode.{number_of};
+    ghost use Rattle.mk_lists.specs.Keyed.{IsIndex};
 
     ghost Value = { List Client };
 
     ghost view = { λ clients. clients.items.items };
 
-    ghost invariant = { λ clients. IsIndexed same_number nat_cmp (map number_of clients.items.items) clients.places.entries };
+    ghost invariant = { λ clients. IsIndex number_of clients.items.items clients.numbers.keys };
 }
 
 impl Clients {
@@ -48,7 +47,7 @@ impl Clients {
     {
         Clients {
             items: Vec::new(alloc),
-            places: BTreeMap::new(alloc),
+            numbers: IndexSet::new(alloc),
         }
     }
 
@@ -75,8 +74,8 @@ impl Clients {
     pub(crate) fn find(&self, number: u32) -> Option<&Client>
         ensures { option_copied result ≡ kept_client number self.now }
     {
-        let place = self.places.get(&number)?;
-        self.items.get(*place)
+        let place = self.numbers.get_index_of(&number)?;
+        self.items.get(place)
     }
 
     /// All clients, in the order in which they were named.
@@ -93,7 +92,7 @@ impl Clients {
         ensures err { OnErr result (self.new ≡ self.old) }
     {
         self.items.reserve(1)?;
-        self.places.insert(number, self.items.len())?;
+        self.numbers.insert(number)?;
         let client = Client {
             number,
             last_time: 0,
@@ -101,9 +100,7 @@ impl Clients {
             heard: 0,
             reading: false,
         };
-        if self.items.push(client).is_err() {
-            unreachable!();
-        }
+        self.items.push_reserved(client);
         Ok(())
     }
 
@@ -114,10 +111,7 @@ impl Clients {
         ensures found { (client : OneClient) → kept_client number self.now ≡ Some (slice_index_or self.now result client) }
         ensures changed { (f : OneClient → OneClient) (client : OneClient) → change_kept number f self.now ≡ slice_set self.now result (f (slice_index_or self.now result client)) }
     {
-        match self.places.get(&number) {
-            Some(place) => *place,
-            None => unreachable!(),
-        }
+        self.numbers.get_index_of(&number).unwrap()
     }
 
     /// Puts this in the place of the client of its number.

@@ -1,26 +1,27 @@
 //! One core number on all replicas.
 ghost use Rattle.std.specs.Prelude.{◌≡◌, [], length, replicate, true, ◌&&◌, ◌^◌, nat_le, is_none, is_some, IfSome, IfOk, IsSome, Some, ◌<◌, ◌≤◌, slice_get, option_map, option_copied};
-ghost use Rattle.mk_column.specs.ColumnState.{AttemptState, ClientState, attempt_of, takeover_of, client_of, entries_at, marks_at, shown, open_at};
-ghost use Rattle.mk_column.specs.declared.Step.TheVariants.{Read, Validate, Again, Stop, Take, Rule, Pick, Takeover, Begin, Unread, Key, Stamp as StampStep};
-ghost use Rattle.mk_column.specs.Conditions.{is_idle, wanted, first_failing, further_conditions, on_attempt, acts_on, picks_one, is_validate_of, leader_serves as leader_serves_in, may_begin as may_begin_in, heard_by, same_call, stamp_exists, first_condition, blocked as blocked_by, serves_from as serving_from};
+ghost use Rattle.mk_model.specs.ColumnState.{AttemptState, ClientState, attempt_of, takeover_of, client_of, entries_at, marks_at, open_at};
+ghost use Rattle.mk_column.specs.ColumnState.{shown};
+ghost use Rattle.mk_words.specs.declared.Step.TheVariants.{Read, Validate, Again, Stop, Take, Rule, Pick, Takeover, Begin, Unread, Key, Stamp as StampStep};
+ghost use Rattle.mk_model.specs.Conditions.{is_idle, wanted, first_failing, further_conditions, on_attempt, acts_on, picks_one, is_validate_of, leader_serves as leader_serves_in, may_begin as may_begin_in, heard_by, same_call, stamp_exists, first_condition, blocked as blocked_by, serves_from as serving_from};
 ghost use Rattle.mk_column.specs.ClientsByCode.{seen_client};
-ghost use Rattle.mk_column.specs.Answers.{is_led as is_led_in};
+ghost use Rattle.mk_model.specs.Answers.{is_led as is_led_in};
 ghost use Rattle.mk_lists.specs.Among.{AllDistinct};
-ghost use Rattle.mk_column.specs.Replicas.{nothing_held};
+ghost use Rattle.mk_model.specs.Replicas.{nothing_held};
 ghost use Rattle.mk_column.specs.ColumnByCode.{column_at_start};
 ghost use Rattle.mk_column.specs.Growing.{HasGrown};
-ghost use Rattle.mk_column.specs.Logs.{replica_reset, reading_ended};
-ghost use Rattle.mk_coord.specs.Rulings.{ruling as ruling_of};
-ghost use Rattle.mk_takeover.specs.Picks.{pick as pick_of};
+ghost use Rattle.mk_model.specs.Logs.{replica_reset, reading_ended};
+ghost use Rattle.mk_words.specs.Rulings.{ruling as ruling_of};
+ghost use Rattle.mk_words.specs.Picks.{pick as pick_of};
 ghost use Rattle.mk_quorum.specs.Slots.{passes};
 ghost use Rattle.mk_quorum.specs.Sizes.{members};
 ghost use Rattle.std.specs.List.{list_any};
-ghost use Rattle.mk_column.specs.Learnings.{decided as first_decided};
+ghost use Rattle.mk_model.specs.Learnings.{decided as first_decided};
 ghost use Rattle.mk_column.specs.AttemptsByCode.{BegunView};
 ghost use Rattle.mk_column.specs.TakeoversByCode.{BackupView};
 
 use crate::attempts::Attempts;
-use crate::backup::{Backup, Turn};
+use crate::backup::{Backup, ViewId};
 use crate::begun::Begun;
 use crate::clients::{Client, Clients};
 use crate::conditions::{
@@ -28,48 +29,41 @@ use crate::conditions::{
     is_going, is_open, is_proposing, is_reading, is_stamped, is_undecided, is_unlearned, may_read,
     may_stop, none_serves, picks_one as picks_one_test, serves, serves_from,
 };
-use crate::learned::Learned;
+use crate::parts::Parts;
 use crate::replica::Replica;
 use crate::takeovers::Takeovers;
 use crate::work::Work;
-use crate::{Attempt, KeyCall, ReplicaView, Step, Writes};
-use mk_cell::{Answer, answers};
-use mk_coord::Ruling;
+use crate::{Attempt, KeyCall, ReplicaView, Step, Writes, fit};
 use mk_msg::Link;
 use mk_quorum::Size;
-use mk_record::{Entry, copies};
+use mk_record::copies;
 use mk_trim::Settled;
 use mk_txn::{Marks, NoMemory, Outcome, Stamp, TxnId};
+use mk_words::{Answer, Entry, Ruling, answers};
 use std::alloc::Global;
 use std::marker::Model;
 
 /// The clients, attempts, takeovers, records, marks and messages of one core number, and the key calls under way.
-#[derive(Drop, Debug)]
+#[derive(Drop)]
 pub struct Column {
     pub(crate) size: Size,
     pub(crate) number: u32,
     pub(crate) version: u32,
     pub(crate) keys: u32,
     pub(crate) views: Vec<ReplicaView>,
-    pub(crate) clients: Clients,
-    pub(crate) attempts: Attempts,
-    pub(crate) takeovers: Takeovers,
-    pub(crate) replicas: Vec<Replica>,
-    pub(crate) link: Link,
-    pub(crate) work: Work,
-    pub(crate) learned: Vec<Learned>,
+    pub(crate) parts: Parts,
     pub(crate) settled: Settled,
     pub(crate) log: Vec<Step>,
 }
 
 impl Model for Column {
-    ghost use Rattle.mk_column.specs.ColumnByCode.{ColumnView, Kept, column_of, IsKept};
+    ghost use Rattle.mk_column.specs.ColumnByCode.{ColumnView, column_of, kept_of, IsKept};
 
     ghost Value = { ColumnView };
 
-    ghost view = { λ c. record { number = c.number; setting = record { version = c.version; faults = c.size; keys = c.keys; views = c.views.items }; state = column_of (record { clients = c.clients; attempts = c.attempts; takeovers = c.takeovers; replicas = c.replicas.items; link = c.link.messages; work = c.work; learned = c.learned.items }); log = c.log.items } };
+    ghost view = { λ c. record { number = c.number; setting = record { version = c.version; faults = c.size; keys = c.keys; views = c.views.items }; state = column_of (kept_of c.parts); log = c.log.items } };
 
-    ghost invariant = { λ c. IsKept c.size (record { clients = c.clients; attempts = c.attempts; takeovers = c.takeovers; replicas = c.replicas.items; link = c.link.messages; work = c.work; learned = c.learned.items }) c.settled };
+    ghost invariant = { λ c. IsKept c.size (kept_of c.parts) c.settled };
 }
 
 impl Column {
@@ -91,35 +85,45 @@ impl Column {
             version,
             keys,
             views: Vec::new(alloc),
-            clients: Clients::named(alloc, clients)?,
-            attempts: Attempts::new(alloc),
-            takeovers: Takeovers::new(alloc),
-            replicas: empty_replicas(alloc, size.n())?,
-            link: Link::new(alloc),
-            work: Work::Idle,
-            learned: Vec::new(alloc),
+            parts: Parts {
+                clients: Clients::named(alloc, clients)?,
+                attempts: Attempts::new(alloc),
+                takeovers: Takeovers::new(alloc),
+                replicas: empty_replicas(alloc, size.n())?,
+                link: Link::new(alloc),
+                work: Work::Idle,
+                learned: Vec::new(alloc),
+            },
             settled: Settled::new(alloc),
             log: Vec::new(alloc),
         })
     }
 
+    /// Among how many replicas the column runs.
+    pub fn size(&self) -> Size
+        ensures { result ≡ self.now.setting.faults }
+    {
+        self.size
+    }
+
     /// A round begins, in which columns see the replicas so. What still reads is over.
     pub fn begin_round(&mut self, views: Vec<ReplicaView>)
         requires views { length views.items ≡ members self.old.setting.faults }
-        requires idle { is_idle self.old.state.work ≡ true }
+        requires idle { wanted self.old.state.work ≡ None }
         ensures after { self.new ≡ record self.old { setting = record self.old.setting { views = views.items }; state = reading_ended self.old.state } }
         ensures grown { HasGrown self.old self.new }
     {
-        self.attempts.end_reading();
-        self.clients.end_reading();
+        self.parts.attempts.end_reading();
+        self.parts.clients.end_reading();
         self.views = views;
     }
 
-    /// The key call that is wanted.
+    /// The key call that is wanted. Where there is none, no work is under way.
     pub fn wants(&self) -> Option<KeyCall>
-        ensures { result ≡ wanted self.now.state.work }
+        ensures call { result ≡ wanted self.now.state.work }
+        ensures idle { result ≡ None → is_idle self.now.state.work ≡ true }
     {
-        self.work.wants()
+        self.parts.work.wants()
     }
 
     /// The steps since the log was taken.
@@ -132,7 +136,7 @@ impl Column {
     pub fn link(&self) -> &Link
         ensures { result.now.messages ≡ self.now.state.link }
     {
-        &self.link
+        &self.parts.link
     }
 
     /// The attempt of this number.
@@ -158,11 +162,11 @@ impl Column {
     /// Leaves the replica no entries and no marks.
     pub fn reset(&mut self, replica: u32)
         requires there { replica < members self.old.setting.faults }
-        requires idle { is_idle self.old.state.work ≡ true }
+        requires idle { wanted self.old.state.work ≡ None }
         ensures after { self.new ≡ record self.old { state = replica_reset replica self.old.state } }
         ensures grown { HasGrown self.old self.new }
     {
-        self.replicas[replica as usize].reset();
+        self.parts.replicas[replica as usize].reset();
     }
 
     /// The place of the client's next attempt.
@@ -178,7 +182,7 @@ impl Column {
         requires { IsSome (attempt_of self.now.state id) }
         ensures { option_map (λ (a : AttemptState). ruling_of self.now.setting.faults a.coord) (attempt_of self.now.state id) ≡ Some result }
     {
-        match self.attempts.find(id) {
+        match self.parts.attempts.find(id) {
             Some(begun) => begun.ruling(),
             None => unreachable!(),
         }
@@ -189,7 +193,7 @@ impl Column {
         requires { replica < members self.now.setting.faults }
         ensures { result.now ≡ marks_at self.now.state replica }
     {
-        self.replicas[replica as usize].marks()
+        self.parts.replicas[replica as usize].marks()
     }
 
     /// Copies of the entries at the replica.
@@ -198,28 +202,28 @@ impl Column {
         ensures { IfOk result (λ entries. entries.items ≡ entries_at self.now.state replica) }
     {
         let alloc = *self.log.allocator();
-        copies(alloc, self.replicas[replica as usize].entries())
+        copies(alloc, self.parts.replicas[replica as usize].entries())
     }
 
     // The attempt of this number, as it is kept.
     pub(crate) fn begun(&self, id: TxnId) -> Option<&Begun>
         ensures { option_map (λ (begun : BegunView). begun.state) (option_copied result) ≡ attempt_of self.now.state id }
     {
-        self.attempts.find(id)
+        self.parts.attempts.find(id)
     }
 
     // The takeover of this attempt at this view, as it is kept.
     pub(crate) fn backup(&self, id: TxnId, view: u32) -> Option<&Backup>
         ensures { option_map (λ (backup : BackupView). backup.of) (option_copied result) ≡ takeover_of self.now.state id view }
     {
-        self.takeovers.find(Turn { id, view })
+        self.parts.takeovers.find(ViewId { id, view })
     }
 
     /// The first outcome that the own coordinator or a takeover of the attempt learned.
     pub fn decided(&self, id: TxnId) -> Option<Outcome>
         ensures { result ≡ first_decided self.now.state id }
     {
-        self.attempts.find(id)?.decided()
+        self.parts.attempts.find(id)?.decided()
     }
 
     // The number of the first condition of Read that fails, after the first.
@@ -254,14 +258,14 @@ impl Column {
     fn take_fails(&self, number: u64) -> Option<u8>
         ensures { result ≡ first_failing 2 (further_conditions self.now.setting self.now.state (Take number)) }
     {
-        first_failing_test(&[self.link.get(number).is_some()])
+        first_failing_test(&[self.parts.link.get(number).is_some()])
     }
 
     // Whether there is something to do by the attempt's ruling.
     fn may_rule(&self, id: TxnId) -> bool
         ensures { result ≡ on_attempt self.now.state id (λ a. acts_on (ruling_of self.now.setting.faults a.coord)) }
     {
-        match self.attempts.find(id) {
+        match self.parts.attempts.find(id) {
             Some(begun) => acts_on_test(begun.ruling()),
             None => false,
         }
@@ -304,7 +308,7 @@ impl Column {
     fn may_pick(&self, id: TxnId, view: u32) -> bool
         ensures { result ≡ passes (λ t. picks_one (pick_of self.now.setting.faults t.state)) (takeover_of self.now.state id view) }
     {
-        match self.takeovers.find(Turn { id, view }) {
+        match self.parts.takeovers.find(ViewId { id, view }) {
             Some(backup) => picks_one_test(backup.pick()),
             None => false,
         }
@@ -324,7 +328,7 @@ impl Column {
     pub fn is_validated(&self, id: TxnId) -> bool
         ensures { result ≡ list_any (is_validate_of id) self.now.state.link }
     {
-        match self.attempts.find(id) {
+        match self.parts.attempts.find(id) {
             Some(begun) => begun.is_validated(),
             None => false,
         }
@@ -350,7 +354,7 @@ impl Column {
     fn may_begin(&self, client: u32) -> bool
         ensures { result ≡ may_begin_in self.now.state client }
     {
-        match self.clients.find(client) {
+        match self.parts.clients.find(client) {
             Some(client) => !client.reading,
             None => false,
         }
@@ -361,7 +365,7 @@ impl Column {
         ensures seen { seen_client result ≡ client_of self.now.state number }
         ensures in_time { IfSome result (λ client. client.now.last_time ≤ 2 ^ 62) }
     {
-        self.clients.find(number)
+        self.parts.clients.find(number)
     }
 
     // The highest epoch that the client has heard of.
@@ -410,7 +414,7 @@ impl Column {
     fn is_wanted(&self, call: &KeyCall) -> bool
         ensures { result ≡ passes (same_call call.now) (wanted self.now.state.work) }
     {
-        match self.work.wants() {
+        match self.parts.work.wants() {
             Some(wanted) => is_call(call, &wanted),
             None => false,
         }
@@ -444,7 +448,7 @@ impl Column {
         let begun = self.begun(id);
         first_failing_test(&[
             is_reading(begun),
-            writes.fit(self.keys),
+            fit(writes, self.keys),
             self.may_stamp(id, clock),
             has_items(begun, writes),
         ])
@@ -456,17 +460,17 @@ impl Column {
     {
         match step {
             Step::Key { call, .. } => self.is_wanted(call),
-            Step::Begin { .. } => self.work.is_idle(),
-            Step::Unread { .. } => self.work.is_idle(),
-            Step::Read { .. } => self.work.is_idle(),
-            Step::Stamp { .. } => self.work.is_idle(),
-            Step::Validate { .. } => self.work.is_idle(),
-            Step::Take { .. } => self.work.is_idle(),
-            Step::Rule { .. } => self.work.is_idle(),
-            Step::Again { .. } => self.work.is_idle(),
-            Step::Takeover { .. } => self.work.is_idle(),
-            Step::Pick { .. } => self.work.is_idle(),
-            Step::Stop { .. } => self.work.is_idle(),
+            Step::Begin { .. }
+            | Step::Unread { .. }
+            | Step::Read { .. }
+            | Step::Stamp { .. }
+            | Step::Validate { .. }
+            | Step::Take { .. }
+            | Step::Rule { .. }
+            | Step::Again { .. }
+            | Step::Takeover { .. }
+            | Step::Pick { .. }
+            | Step::Stop { .. } => self.parts.work.is_idle(),
         }
     }
 
@@ -512,19 +516,19 @@ impl Column {
     pub fn takeover_count(&self) -> usize
         ensures { result ≡ length self.now.state.takeovers }
     {
-        self.takeovers.len()
+        self.parts.takeovers.len()
     }
 
     /// The attempt and the view of the takeover at this place, where it is not done.
     pub fn open_takeover(&self, place: usize) -> Option<(TxnId, u32)>
         ensures { result ≡ open_at self.now.state place }
     {
-        let backup = self.takeovers.get(place)?;
+        let backup = self.parts.takeovers.get(place)?;
         if backup.is_closed() {
             return None;
         }
-        let turn = backup.turn();
-        Some((turn.id, turn.view))
+        let view_id = backup.view_id();
+        Some((view_id.id, view_id.view))
     }
 }
 

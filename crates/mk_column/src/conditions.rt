@@ -1,11 +1,11 @@
 //! The tests of which the conditions of steps are made.
 ghost use Rattle.std.specs.Prelude.{◌≡◌, ◌≤◌, ◌&&◌, ◌+◌, nat_le, nat_lt, not, false, Some, is_some, is_none, length};
 ghost use Rattle.mk_quorum.specs.Slots.{passes};
-ghost use Rattle.mk_coord.specs.Rulings.{ruling as ruling_of};
-ghost use Rattle.mk_takeover.specs.Picks.{pick as pick_of};
-ghost use Rattle.mk_column.specs.Replicas.{serves as serving_view};
-ghost use Rattle.mk_column.specs.Conditions.{is_stamped as has_txn, may_read as may_read_key, acts_on as acts_on_ruling, picks_one as picks_one_of, serves_from as serving_from, first_failing as first_failing_from, same_call};
-ghost use Rattle.mk_cell.specs.Acts.{same_act};
+ghost use Rattle.mk_words.specs.Rulings.{ruling as ruling_of};
+ghost use Rattle.mk_words.specs.Picks.{pick as pick_of};
+ghost use Rattle.mk_model.specs.Replicas.{serves as serving_view};
+ghost use Rattle.mk_model.specs.Conditions.{is_stamped as has_txn, may_read as may_read_key, acts_on as acts_on_ruling, picks_one as picks_one_of, serves_from as serving_from, first_failing as first_failing_from, same_call};
+ghost use Rattle.mk_words.specs.Acts.{same_act};
 ghost use Rattle.mk_column.specs.ClientsByCode.{seen_client};
 ghost use Rattle.std.specs.List.{list_any};
 ghost use Rattle.mk_column.specs.AttemptsByCode.{seen};
@@ -16,9 +16,7 @@ use crate::begun::Begun;
 use crate::clients::Client;
 use crate::replica::is_serving;
 use crate::{KeyCall, ReplicaView, Writes};
-use mk_cell::Act;
-use mk_coord::Ruling;
-use mk_takeover::Pick;
+use mk_words::{Act, Pick, Ruling};
 
 /// The number of the first test that fails, counted from 2.
 pub(crate) fn first_failing(tests: &[bool]) -> Option<u8>

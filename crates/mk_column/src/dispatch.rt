@@ -1,7 +1,8 @@
 //! A step of a column: it is done where it is enabled, and logged.
 ghost use Rattle.std.specs.Prelude.{◌≡◌, ◌∷◌, ◌++◌, [], None, OnOk, OnErr, IfErr};
-ghost use Rattle.mk_column.specs.Conditions.{blocked as blocked_by, error_of};
-ghost use Rattle.mk_column.specs.Steps.{column_after};
+ghost use Rattle.mk_model.specs.Conditions.{blocked as blocked_by};
+ghost use Rattle.mk_column.specs.Conditions.{error_of};
+ghost use Rattle.mk_model.specs.Steps.{column_after};
 ghost use Rattle.mk_column.specs.Growing.{HasGrown, ReadsUnstamped};
 
 use crate::column::Column;
@@ -10,7 +11,8 @@ use mk_txn::NoMemory;
 use std::alloc::Global;
 
 impl Column {
-    /// Does the step where it is enabled, and logs it. All memory is taken before anything changes.
+    /// Does the step where it is enabled, and logs it. Without memory the column is as it was: room is taken before
+    /// anything changes, but for an Unread, whose attempt is taken out again where its place finds no room.
     pub fn step(&mut self, step: Step) -> Result<(), ColumnError>
         ensures enabled { OnOk result (blocked_by self.old.setting self.old.state step ≡ None) }
         ensures ok { OnOk result (self.new ≡ record self.old { state = column_after self.old.setting self.old.state step; log = self.old.log ++ step ∷ [] }) }

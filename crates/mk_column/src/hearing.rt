@@ -1,21 +1,22 @@
 //! An answer is taken by the own coordinator.
 ghost use Rattle.std.specs.Prelude.{◌≡◌, ◌<◌, ◌==◌, true, false, OnOk, OnErr, IsSome};
 ghost use Rattle.mk_quorum.specs.Sizes.{members};
-ghost use Rattle.mk_msg.specs.Links.{goes_to_replica};
-ghost use Rattle.mk_column.specs.ColumnState.{attempt_of, change_attempt, change_client};
-ghost use Rattle.mk_column.specs.ColumnState.Way.{ByMoved};
+ghost use Rattle.mk_words.specs.Links.{goes_to_replica};
+ghost use Rattle.mk_model.specs.ColumnState.{attempt_of, change_attempt, change_client};
+ghost use Rattle.mk_model.specs.ColumnState.Way.{ByMoved};
 ghost use Rattle.mk_column.specs.ColumnByCode.{way_of};
 ghost use Rattle.mk_column.specs.ClientsByCode.{client_heard};
-ghost use Rattle.mk_column.specs.Answers.{listens as listens_in, attempt_answered, moved_outcome};
-ghost use Rattle.mk_column.specs.Learnings.{learning, is_finishing};
-ghost use Rattle.mk_column.specs.Steps.{taught, with_learning, taught_in, heard_at, heard_taken, counts};
+ghost use Rattle.mk_model.specs.Answers.{listens as listens_in, attempt_answered, moved_outcome};
+ghost use Rattle.mk_model.specs.Learnings.{learning, is_finishing};
+ghost use Rattle.mk_model.specs.Steps.{taught, with_learning};
+ghost use Rattle.mk_column.specs.StepsByCode.{taught_in, heard_at, heard_taken, counts};
 
 use crate::begun::taught_by;
 use crate::clients::Client;
 use crate::column::Column;
 use crate::learned::{Learned, Way, learn_own};
-use mk_msg::{Body, Moved, Msg};
 use mk_txn::{NoMemory, Outcome, TxnId};
+use mk_words::{Body, Moved, Msg};
 
 impl Column {
     // Whether the own coordinator takes answers.
@@ -37,9 +38,9 @@ impl Column {
     {
         let lesson = Learned { id, outcome, way };
         learn_own(
-            &mut self.attempts,
+            &mut self.parts.attempts,
             &mut self.settled,
-            &mut self.learned,
+            &mut self.parts.learned,
             lesson,
         )?;
         Ok(())
@@ -65,18 +66,18 @@ impl Column {
         requires counts { counts body.now ≡ true }
         ensures { self.new ≡ record self.old { state = change_attempt id (attempt_answered replica body.now) self.old.state } }
     {
-        self.attempts.answer(id, replica, body);
+        self.parts.attempts.answer(id, replica, body);
     }
 
     // The client hears of the epoch.
     fn hear(&mut self, number: u32, epoch: u32)
         ensures { self.new ≡ record self.old { state = change_client number (heard_at epoch) self.old.state } }
     {
-        let Some(client) = self.clients.find(number) else {
+        let Some(client) = self.parts.clients.find(number) else {
             return;
         };
         let after = after_hearing(client, epoch);
-        self.clients.put(after);
+        self.parts.clients.put(after);
     }
 
     // A replica of a later epoch answered.

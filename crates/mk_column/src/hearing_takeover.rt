@@ -1,19 +1,20 @@
 //! An answer is heard by a takeover.
 ghost use Rattle.std.specs.Prelude.{◌≡◌, ◌<◌, ◌&&◌, ◌==◌, true, false, Some, option_map, is_some, IsSome, IfSome, OnOk, OnErr};
 ghost use Rattle.mk_quorum.specs.Sizes.{members};
-ghost use Rattle.mk_msg.specs.Links.{goes_to_replica};
-ghost use Rattle.mk_column.specs.Answers.{is_led as is_led_in, takeover_answered};
+ghost use Rattle.mk_words.specs.Links.{goes_to_replica};
+ghost use Rattle.mk_model.specs.Answers.{is_led as is_led_in, takeover_answered};
 ghost use Rattle.mk_column.specs.ColumnByCode.{way_of, lesson_of, lesson_in};
-ghost use Rattle.mk_column.specs.ColumnState.{TakeoverOf, takeover_of, change_takeover};
-ghost use Rattle.mk_column.specs.Learnings.{by_message, learning, is_finishing};
-ghost use Rattle.mk_column.specs.Steps.{heard_taken, with_learning};
+ghost use Rattle.mk_model.specs.ColumnState.{TakeoverOf, takeover_of, change_takeover};
+ghost use Rattle.mk_model.specs.Learnings.{by_message, learning, is_finishing};
+ghost use Rattle.mk_model.specs.Steps.{with_learning};
+ghost use Rattle.mk_column.specs.StepsByCode.{heard_taken};
 
-use crate::backup::Turn;
+use crate::backup::ViewId;
 use crate::begun::taught_by;
 use crate::column::Column;
 use crate::learned::{Learned, Way};
-use mk_msg::{Body, Msg};
 use mk_txn::{NoMemory, Outcome, TxnId};
+use mk_words::{Body, Msg};
 
 impl Column {
     // An answer in a view above 0 goes to that view's takeover.
@@ -28,11 +29,11 @@ impl Column {
             return Ok(());
         }
         if let Some((outcome, way)) = self.lesson(msg) {
-            let turn = Turn {
+            let view_id = ViewId {
                 id: msg.id,
                 view: msg.view,
             };
-            self.learn_heard(turn, outcome, way)?;
+            self.learn_heard(view_id, outcome, way)?;
         }
         self.hear_at(msg);
         Ok(())
@@ -68,15 +69,15 @@ impl Column {
     }
 
     // The takeover, which is there, learns the outcome in this way, which is not by finishing.
-    fn learn_heard(&mut self, turn: Turn, outcome: Outcome, way: Way) -> Result<(), NoMemory>
-        requires there { IsSome (takeover_of self.old.state turn.id turn.view) }
+    fn learn_heard(&mut self, view_id: ViewId, outcome: Outcome, way: Way) -> Result<(), NoMemory>
+        requires there { IsSome (takeover_of self.old.state view_id.id view_id.view) }
         requires way { is_finishing (way_of way) ≡ false }
-        ensures ok { OnOk result (self.new ≡ record self.old { state = with_learning (learning turn.id (way_of way) outcome) self.old.state }) }
+        ensures ok { OnOk result (self.new ≡ record self.old { state = with_learning (learning view_id.id (way_of way) outcome) self.old.state }) }
         ensures err { OnErr result (self.new ≡ self.old) }
     {
-        let id = turn.id;
-        self.learned.push(Learned { id, outcome, way })?;
-        self.attempts.decide(id, outcome);
+        let id = view_id.id;
+        self.parts.learned.push(Learned { id, outcome, way })?;
+        self.parts.attempts.decide(id, outcome);
         Ok(())
     }
 
@@ -86,11 +87,11 @@ impl Column {
         requires there { IsSome (takeover_of self.old.state msg.now.id msg.now.view) }
         ensures { self.new ≡ record self.old { state = change_takeover msg.now.id msg.now.view (takeover_answered msg.now.replica msg.now.body) self.old.state } }
     {
-        let turn = Turn {
+        let view_id = ViewId {
             id: msg.id,
             view: msg.view,
         };
-        self.takeovers.answer(turn, msg.replica, &msg.body);
+        self.parts.takeovers.answer(view_id, msg.replica, &msg.body);
     }
 }
 

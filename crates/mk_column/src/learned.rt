@@ -10,7 +10,7 @@ use mk_txn::{NoMemory, Outcome, TxnId};
 
 /// How an outcome was learned: by fast votes, by accepts of the own proposal, by the pick of a view that a majority
 /// accepted, by a replica of a later epoch, by being told, or by a replica's finishing.
-#[derive(Clone, Copy, Debug)]
+#[derive(Clone, Copy)]
 pub(crate) enum Way {
     Votes,
     Accepts,
@@ -21,7 +21,7 @@ pub(crate) enum Way {
 }
 
 /// Somebody learned the outcome of an attempt.
-#[derive(Clone, Copy, Debug)]
+#[derive(Clone, Copy)]
 pub(crate) struct Learned {
     pub(crate) id: TxnId,
     pub(crate) outcome: Outcome,

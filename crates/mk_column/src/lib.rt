@@ -3,6 +3,7 @@
 
 ghost use Rattle.std.specs.Prelude.{◌≡◌, ◌==◌};
 ghost use Rattle.std.specs.List.{list_any};
+ghost use Rattle.mk_model.specs.Conditions.{writes_fit};
 ghost use Rattle.mk_txn.specs.Transactions.{are_distinct as keys_differ, write_keys};
 
 mod answering;
@@ -14,38 +15,31 @@ mod clients;
 mod column;
 mod conditions;
 mod dispatch;
+mod growing;
 mod hearing;
 mod hearing_takeover;
 mod learned;
 mod outlet;
+mod parts;
 mod replica;
 mod sending;
 mod stamping;
 mod stepping;
 mod takeovers;
 mod taking;
-#[cfg(test)]
-mod tests;
 mod work;
 
 pub use column::Column;
-use mk_cell::{Act, Answer};
-pub use mk_merge::{Phase, ReplicaView};
+pub use growing::grows_through;
+pub use mk_trim::ReplicaView;
 use mk_txn::{NoMemory, Outcome, ReadItem, Txn, TxnId, WriteItem};
+pub use mk_words::{KeyCall, Phase, Step, Writes};
 pub use outlet::{NoOutlet, Outlet};
 use std::alloc::Global;
 use std::marker::Model;
 
-/// An act that a column wants done at a key of a replica.
-#[derive(Clone, Copy, Debug, PartialEq, Eq)]
-pub struct KeyCall {
-    pub replica: u32,
-    pub key: u32,
-    pub act: Act,
-}
-
 /// The reads of an attempt, in order of mention.
-#[derive(Drop, Debug)]
+#[derive(Drop)]
 pub struct Reads {
     items: Vec<ReadItem>,
 }
@@ -110,57 +104,11 @@ impl Reads {
     }
 }
 
-/// The writes of an attempt, in order of mention.
-#[derive(Drop, Debug)]
-pub struct Writes {
-    items: Vec<WriteItem>,
-}
-
-impl Model for Writes {
-    ghost use Rattle.std.specs.Prelude.{List};
-    ghost use Rattle.mk_txn.specs.declared.WriteItem.{WriteItem};
-
-    ghost Value = { List WriteItem };
-
-    ghost view = { λ writes. writes.items.items };
-}
-
-impl Writes {
-    ghost use Rattle.std.specs.Prelude.{◌≡◌, ◌&&◌, ◌==◌, nat_lt, nat_le, length};
-    ghost use Rattle.std.specs.List.{list_all};
-    ghost use Rattle.mk_column.specs.Conditions.{writes_fit};
-
-    pub fn of(items: Vec<WriteItem>) -> Writes
-        ensures { result ≡ items.items }
-    {
-        Writes { items }
-    }
-
-    fn is_empty(&self) -> bool
-        ensures { result ≡ (length self.now == 0) }
-    {
-        self.items.len() == 0
-    }
-
-    pub(crate) fn as_slice(&self) -> &[WriteItem]
-        ensures { result.now ≡ self.now }
-    {
-        self.items.as_slice()
-    }
-
-    // Whether each key is one of so many.
-    fn are_below(&self, keys: u32) -> bool
-        ensures { result ≡ list_all (λ item. nat_lt item.key keys) self.now }
-    {
-        self.items.iter().all(|item| item.key < keys)
-    }
-
-    // At most 16 writes of different keys, each of which there is.
-    fn fit(&self, keys: u32) -> bool
-        ensures { result ≡ writes_fit keys self.now }
-    {
-        self.items.len() <= 16 && are_distinct(&self.items) && self.are_below(keys)
-    }
+// At most 16 writes of different keys, each of which there is.
+fn fit(writes: &Writes, keys: u32) -> bool
+    ensures { result ≡ writes_fit keys writes.now }
+{
+    writes.as_slice().len() <= 16 && are_distinct(writes.as_slice()) && writes.are_below(keys)
 }
 
 // Whether no key is written twice.
@@ -179,68 +127,8 @@ fn has_key(items: &[WriteItem], key: u32) -> bool
     items.iter().any(|item| item.key == key)
 }
 
-/// One step of a column.
-#[derive(Drop, Debug)]
-pub enum Step {
-    /// The client begins an attempt, which reads at this replica.
-    Begin {
-        client: u32,
-        replica: u32,
-    },
-    /// The client begins an attempt that finds no replica to read at.
-    Unread {
-        client: u32,
-    },
-    /// The attempt asks for the key's value.
-    Read {
-        id: TxnId,
-        key: u32,
-    },
-    /// The attempt gets its stamp and its writes, which makes the transaction.
-    Stamp {
-        id: TxnId,
-        clock: u64,
-        writes: Writes,
-    },
-    /// A Validate is sent to all replicas.
-    Validate {
-        id: TxnId,
-    },
-    /// The message of this number is taken.
-    Take {
-        number: u64,
-    },
-    /// The wanted key call is answered.
-    Key {
-        call: KeyCall,
-        answer: Answer,
-    },
-    /// The own coordinator does what its ruling says.
-    Rule {
-        id: TxnId,
-    },
-    /// The own coordinator sends its proposal again.
-    Again {
-        id: TxnId,
-    },
-    /// A takeover of the attempt begins at this view.
-    Takeover {
-        id: TxnId,
-        view: u32,
-    },
-    /// The takeover does what its pick says.
-    Pick {
-        id: TxnId,
-        view: u32,
-    },
-    /// The own coordinator stops for good.
-    Stop {
-        id: TxnId,
-    },
-}
-
 /// Why a step was not done.
-#[derive(Clone, Copy, Debug, PartialEq, Eq)]
+#[derive(Clone, Copy, PartialEq, Eq)]
 pub enum ColumnError {
     /// The step's first condition that fails has this number.
     NotEnabled(u8),
@@ -259,7 +147,7 @@ impl From<NoMemory> for ColumnError {
 }
 
 /// An attempt as it stands: `proposed` and `learned` are its own coordinator's.
-#[derive(Drop, Debug)]
+#[derive(Drop)]
 pub struct Attempt {
     pub id: TxnId,
     pub replica: u32,

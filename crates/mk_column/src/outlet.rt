@@ -36,7 +36,7 @@ pub trait Outlet {
 }
 
 /// Nobody is told.
-#[derive(Clone, Copy, Debug)]
+#[derive(Clone, Copy)]
 pub struct NoOutlet;
 
 impl Outlet for NoOutlet {

@@ -1,29 +1,29 @@
 //! What a replica keeps of a column, and what it does with a message.
 ghost use Rattle.std.specs.Prelude.{◌≡◌, [], true, None, Some, option_copied, IsSome, IsSomeAnd, OnOk, OnErr, IfOk};
-ghost use Rattle.mk_record.specs.declared.Entry.{Entry as AnEntry};
-ghost use Rattle.mk_record.specs.Entries.{entry_of, may_vote, change_entry, with_vote};
-ghost use Rattle.mk_msg.specs.declared.Msg.{Msg as AMsg};
-ghost use Rattle.mk_column.specs.Replicas.{Held as AllHeld, reaction_by_view, moved_reaction, on_validate, ask_known, accept_known, decide_known, entry_or_opened, with_entry, told_of, ignored, answering as all_answering, is_serving as serving_phase, finishing as work_finishing};
+ghost use Rattle.mk_words.specs.declared.Entry.{Entry as AnEntry};
+ghost use Rattle.mk_words.specs.Entries.{entry_of, may_vote, change_entry, with_vote};
+ghost use Rattle.mk_words.specs.declared.Msg.{Msg as AMsg};
+ghost use Rattle.mk_model.specs.Replicas.{Held as AllHeld, reaction_by_view, moved_reaction, on_validate, ask_known, accept_known, decide_known, entry_or_opened, with_entry, told_of, ignored, answering as all_answering, is_serving as serving_phase, finishing as work_finishing};
 ghost use Rattle.mk_column.specs.HeldByCode.{reaction_with, work_of, refused_with, answer_to_validate, is_decide as decide_body};
 
 use crate::work::Work;
 use crate::{Phase, ReplicaView};
-use mk_msg::{Body, Moved, Msg, Told};
-use mk_record::{CoreRecord, Entry, RecordError};
+use mk_record::{CoreRecord, RecordError};
 use mk_txn::{Marks, NoMemory, Outcome, Txn, TxnId, Vote};
 use mk_valid::{Finishing, Validation};
+use mk_words::{Body, Entry, Moved, Msg, Told};
 use std::alloc::Global;
 use std::marker::Model;
 
 /// The record and the marks of one replica.
-#[derive(Drop, Debug)]
+#[derive(Drop)]
 pub(crate) struct Replica {
     record: CoreRecord,
     marks: Marks,
 }
 
 impl Model for Replica {
-    ghost use Rattle.mk_column.specs.Replicas.{Held};
+    ghost use Rattle.mk_model.specs.Replicas.{Held};
 
     ghost Value = { Held };
 
@@ -31,7 +31,7 @@ impl Model for Replica {
 }
 
 /// What a replica does with a message beside changing what it keeps.
-#[derive(Drop, Debug)]
+#[derive(Drop)]
 pub(crate) struct Reaction {
     pub(crate) answer: Option<Body>,
     pub(crate) work: Work,

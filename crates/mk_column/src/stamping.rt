@@ -1,9 +1,9 @@
 //! An attempt gets its stamp and its writes.
 ghost use Rattle.std.specs.Prelude.{◌≡◌, ◌≤◌, true, length, None, IfOk, OnOk, OnErr};
 ghost use Rattle.mk_txn.specs.Transactions.{is_above_reads, are_distinct, write_keys};
-ghost use Rattle.mk_column.specs.declared.Step.TheVariants.{Stamp as StampStep};
-ghost use Rattle.mk_column.specs.Conditions.{blocked as blocked_by};
-ghost use Rattle.mk_column.specs.Steps.{column_after};
+ghost use Rattle.mk_words.specs.declared.Step.TheVariants.{Stamp as StampStep};
+ghost use Rattle.mk_model.specs.Conditions.{blocked as blocked_by};
+ghost use Rattle.mk_model.specs.Steps.{column_after};
 ghost use Rattle.mk_column.specs.ClientsByCode.{client_stamped};
 
 use crate::clients::Client;
@@ -20,14 +20,14 @@ impl Column {
         ensures err { OnErr result (self.new ≡ self.old) }
     {
         let alloc = *self.log.allocator();
-        let begun = self.attempts.find(id).unwrap();
-        let before = *self.clients.find(id.client).unwrap();
+        let begun = self.parts.attempts.find(id).unwrap();
+        let before = *self.parts.clients.find(id.client).unwrap();
         let stamp = begun
             .next_stamp(before.number, before.last_time, clock)
             .unwrap();
         let txn = txn_of(alloc, id, stamp, &begun.shown().reads, writes.as_slice())?;
-        self.attempts.stamp(id, txn);
-        self.clients.put(after_stamp(&before, stamp.time));
+        self.parts.attempts.stamp(id, txn);
+        self.parts.clients.put(after_stamp(&before, stamp.time));
         Ok(())
     }
 }

@@ -1,28 +1,26 @@
 //! The steps of a column.
 ghost use Rattle.std.specs.Prelude.{◌≡◌, ◌≤◌, ◌∷◌, ◌++◌, [], None, Some, false, option_map, IsSome, IsSomeAnd, OnOk, OnErr};
-ghost use Rattle.mk_column.specs.declared.Step.TheVariants.{Stop, Again, Rule, Takeover, Pick as PickStep, Validate as ValidateStep};
-ghost use Rattle.mk_column.specs.Conditions.{blocked as blocked_by};
-ghost use Rattle.mk_column.specs.Steps.{closing, column_after, proposing, takeover_proposing, taught, with_learning};
-ghost use Rattle.mk_column.specs.ColumnState.{TakeoverOf, attempt_of, takeover_of, change_attempt, change_takeover, mark_sent, send, to_all};
-ghost use Rattle.mk_msg.specs.declared.Body.TheVariants.{Validate as ValidateBody, Decide, Ask};
-ghost use Rattle.mk_msg.specs.declared.MsgKind.TheVariants.{Validate};
-ghost use Rattle.mk_msg.specs.Links.{kind_of};
-ghost use Rattle.mk_coord.specs.Rulings.{ruling as ruling_of};
-ghost use Rattle.mk_coord.specs.declared.Ruling.TheVariants.{Propose as ToPropose};
-ghost use Rattle.mk_takeover.specs.Picks.{pick as pick_of};
-ghost use Rattle.mk_takeover.specs.declared.Pick.TheVariants.{Propose as PicksToPropose};
+ghost use Rattle.mk_words.specs.declared.Step.TheVariants.{Stop, Again, Rule, Takeover, Pick as PickStep, Validate as ValidateStep};
+ghost use Rattle.mk_model.specs.Conditions.{blocked as blocked_by};
+ghost use Rattle.mk_model.specs.Steps.{closing, column_after, proposing, takeover_proposing, taught, with_learning};
+ghost use Rattle.mk_model.specs.ColumnState.{TakeoverOf, attempt_of, takeover_of, change_attempt, change_takeover, mark_sent, send, to_all};
+ghost use Rattle.mk_words.specs.declared.Body.TheVariants.{Validate as ValidateBody, Decide, Ask};
+ghost use Rattle.mk_words.specs.declared.MsgKind.TheVariants.{Validate};
+ghost use Rattle.mk_words.specs.Links.{kind_of};
+ghost use Rattle.mk_words.specs.Rulings.{ruling as ruling_of};
+ghost use Rattle.mk_words.specs.declared.Ruling.TheVariants.{Propose as ToPropose};
+ghost use Rattle.mk_words.specs.Picks.{pick as pick_of};
+ghost use Rattle.mk_words.specs.declared.Pick.TheVariants.{Propose as PicksToPropose};
 ghost use Rattle.mk_column.specs.TakeoversByCode.{backup_begun};
-ghost use Rattle.mk_column.specs.Learnings.{learning, is_finishing};
+ghost use Rattle.mk_model.specs.Learnings.{learning, is_finishing};
 ghost use Rattle.mk_column.specs.ColumnByCode.{way_of};
 
-use crate::backup::{Backup, Turn};
+use crate::backup::{Backup, ViewId};
 use crate::column::Column;
 use crate::learned::{Learned, Way, learn_own};
 use crate::sending::send_to_all;
-use mk_coord::Ruling;
-use mk_msg::Body;
-use mk_takeover::Pick;
 use mk_txn::{NoMemory, Outcome, TxnId};
+use mk_words::{Body, Pick, Ruling};
 
 impl Column {
     // The own coordinator stops for good.
@@ -30,7 +28,7 @@ impl Column {
         requires { blocked_by self.old.setting self.old.state (Stop id) ≡ None }
         ensures { self.new ≡ record self.old { state = column_after self.old.setting self.old.state (Stop id) } }
     {
-        self.attempts.stop(id);
+        self.parts.attempts.stop(id);
     }
 
     // The mark that goes with a Validate of this client's.
@@ -50,8 +48,8 @@ impl Column {
         ensures ok { OnOk result (self.new ≡ record self.old { state = send (to_all self.old.setting.faults epoch id view body) self.old.state }) }
         ensures err { OnErr result (self.new ≡ self.old) }
     {
-        self.link.reserve(self.size.n())?;
-        send_to_all(&mut self.link, self.size, epoch, id, view, body);
+        self.parts.link.reserve(self.size.n())?;
+        send_to_all(&mut self.parts.link, self.size, epoch, id, view, body);
         Ok(())
     }
 
@@ -61,10 +59,10 @@ impl Column {
         ensures ok { OnOk result (self.new ≡ record self.old { state = send (to_all self.old.setting.faults epoch id 0 (ValidateBody mark)) self.old.state }) }
         ensures err { OnErr result (self.new ≡ self.old) }
     {
-        self.link.reserve(self.size.n())?;
+        self.parts.link.reserve(self.size.n())?;
         let body = Body::Validate { mark };
-        send_to_all(&mut self.link, self.size, epoch, id, 0, body);
-        self.attempts.validate(id);
+        send_to_all(&mut self.parts.link, self.size, epoch, id, 0, body);
+        self.parts.attempts.validate(id);
         Ok(())
     }
 
@@ -73,7 +71,7 @@ impl Column {
         requires { IsSomeAnd (attempt_of self.old.state id) (λ a. ruling_of self.old.setting.faults a.coord ≡ ToPropose outcome) }
         ensures { self.new ≡ record self.old { state = change_attempt id (proposing outcome) self.old.state } }
     {
-        self.attempts.propose(id, outcome);
+        self.parts.attempts.propose(id, outcome);
     }
 
     // The own coordinator learns the outcome in this way, which is not by finishing, and tells all replicas.
@@ -83,77 +81,84 @@ impl Column {
         ensures ok { OnOk result (self.new ≡ record self.old { state = send (to_all self.old.setting.faults epoch id 0 (Decide outcome)) (with_learning (learning id (way_of way) outcome) (change_attempt id (taught outcome) self.old.state)) }) }
         ensures err { OnErr result (self.new ≡ self.old) }
     {
-        self.link.reserve(self.size.n())?;
+        self.parts.link.reserve(self.size.n())?;
         let lesson = Learned { id, outcome, way };
         learn_own(
-            &mut self.attempts,
+            &mut self.parts.attempts,
             &mut self.settled,
-            &mut self.learned,
+            &mut self.parts.learned,
             lesson,
         )?;
         let body = Body::Decide(outcome);
-        send_to_all(&mut self.link, self.size, epoch, id, 0, body);
+        send_to_all(&mut self.parts.link, self.size, epoch, id, 0, body);
         Ok(())
     }
 
     // What the takeover picks.
-    fn picked(&self, turn: Turn) -> Pick
-        requires { IsSome (takeover_of self.now.state turn.id turn.view) }
-        ensures { option_map (λ (t : TakeoverOf). pick_of self.now.setting.faults t.state) (takeover_of self.now.state turn.id turn.view) ≡ Some result }
+    fn picked(&self, view_id: ViewId) -> Pick
+        requires { IsSome (takeover_of self.now.state view_id.id view_id.view) }
+        ensures { option_map (λ (t : TakeoverOf). pick_of self.now.setting.faults t.state) (takeover_of self.now.state view_id.id view_id.view) ≡ Some result }
     {
-        match self.takeovers.find(turn) {
+        match self.parts.takeovers.find(view_id) {
             Some(backup) => backup.pick(),
             None => unreachable!(),
         }
     }
 
     // The takeover proposes what it picks.
-    fn propose_at(&mut self, turn: Turn, outcome: Outcome)
-        requires { IsSomeAnd (takeover_of self.old.state turn.id turn.view) (λ t. pick_of self.old.setting.faults t.state ≡ PicksToPropose outcome) }
-        ensures { self.new ≡ record self.old { state = change_takeover turn.id turn.view (takeover_proposing outcome) self.old.state } }
+    fn propose_at(&mut self, view_id: ViewId, outcome: Outcome)
+        requires { IsSomeAnd (takeover_of self.old.state view_id.id view_id.view) (λ t. pick_of self.old.setting.faults t.state ≡ PicksToPropose outcome) }
+        ensures { self.new ≡ record self.old { state = change_takeover view_id.id view_id.view (takeover_proposing outcome) self.old.state } }
     {
-        self.takeovers.propose(turn, outcome);
+        self.parts.takeovers.propose(view_id, outcome);
     }
 
     // The takeover makes the outcome known, which is learned in this way, and tells all replicas.
     fn learn_at(
         &mut self,
         epoch: u32,
-        turn: Turn,
+        view_id: ViewId,
         outcome: Outcome,
         way: Way,
     ) -> Result<(), NoMemory>
-        requires there { IsSome (takeover_of self.old.state turn.id turn.view) }
-        requires known { IsSome (attempt_of self.old.state turn.id) }
+        requires there { IsSome (takeover_of self.old.state view_id.id view_id.view) }
+        requires known { IsSome (attempt_of self.old.state view_id.id) }
         requires way { is_finishing (way_of way) ≡ false }
-        ensures ok { OnOk result (self.new ≡ record self.old { state = send (to_all self.old.setting.faults epoch turn.id turn.view (Decide outcome)) (with_learning (learning turn.id (way_of way) outcome) (change_takeover turn.id turn.view closing self.old.state)) }) }
+        ensures ok { OnOk result (self.new ≡ record self.old { state = send (to_all self.old.setting.faults epoch view_id.id view_id.view (Decide outcome)) (with_learning (learning view_id.id (way_of way) outcome) (change_takeover view_id.id view_id.view closing self.old.state)) }) }
         ensures err { OnErr result (self.new ≡ self.old) }
     {
-        self.link.reserve(self.size.n())?;
-        self.learned.reserve(1)?;
-        let Turn { id, view } = turn;
-        self.takeovers.close(turn);
-        self.attempts.decide(id, outcome);
-        if self.learned.push(Learned { id, outcome, way }).is_err() {
+        self.parts.link.reserve(self.size.n())?;
+        self.parts.learned.reserve(1)?;
+        let ViewId { id, view } = view_id;
+        self.parts.takeovers.close(view_id);
+        self.parts.attempts.decide(id, outcome);
+        if self
+            .parts
+            .learned
+            .push(Learned { id, outcome, way })
+            .is_err()
+        {
             unreachable!();
         }
         let body = Body::Decide(outcome);
-        send_to_all(&mut self.link, self.size, epoch, id, view, body);
+        send_to_all(&mut self.parts.link, self.size, epoch, id, view, body);
         Ok(())
     }
 
     // A takeover begins, and asks all replicas.
-    fn begin_takeover(&mut self, epoch: u32, turn: Turn) -> Result<(), NoMemory>
-        requires known { IsSome (attempt_of self.old.state turn.id) }
-        requires none { takeover_of self.old.state turn.id turn.view ≡ None }
-        requires view { 1 ≤ turn.view }
-        ensures ok { OnOk result (self.new ≡ record self.old { state = send (to_all self.old.setting.faults epoch turn.id turn.view Ask) (record self.old.state { takeovers = self.old.state.takeovers ++ (backup_begun self.old.setting.faults turn.id turn.view).of ∷ [] }) }) }
+    fn begin_takeover(&mut self, epoch: u32, view_id: ViewId) -> Result<(), NoMemory>
+        requires known { IsSome (attempt_of self.old.state view_id.id) }
+        requires none { takeover_of self.old.state view_id.id view_id.view ≡ None }
+        requires view { 1 ≤ view_id.view }
+        ensures ok { OnOk result (self.new ≡ record self.old { state = send (to_all self.old.setting.faults epoch view_id.id view_id.view Ask) (record self.old.state { takeovers = self.old.state.takeovers ++ (backup_begun self.old.setting.faults view_id.id view_id.view).of ∷ [] }) }) }
         ensures err { OnErr result (self.new ≡ self.old) }
     {
-        self.link.reserve(self.size.n())?;
-        self.takeovers.push(Backup::begin(self.size, turn))?;
-        let Turn { id, view } = turn;
-        send_to_all(&mut self.link, self.size, epoch, id, view, Body::Ask);
+        self.parts.link.reserve(self.size.n())?;
+        self.parts
+            .takeovers
+            .push(Backup::begin(self.size, view_id))?;
+        let ViewId { id, view } = view_id;
+        send_to_all(&mut self.parts.link, self.size, epoch, id, view, Body::Ask);
         Ok(())
     }
 
@@ -207,7 +212,7 @@ impl Column {
         ensures err { OnErr result (self.new ≡ self.old) }
     {
         let epoch = self.attempt(id).unwrap().epoch;
-        self.begin_takeover(epoch, Turn { id, view })
+        self.begin_takeover(epoch, ViewId { id, view })
     }
 
     // The takeover at this view does what its pick says.
@@ -217,13 +222,13 @@ impl Column {
         ensures err { OnErr result (self.new ≡ self.old) }
     {
         let epoch = self.attempt(id).unwrap().epoch;
-        let turn = Turn { id, view };
-        match self.picked(turn) {
-            Pick::Known(outcome) => self.learn_at(epoch, turn, outcome, Way::Telling),
-            Pick::Learned(outcome) => self.learn_at(epoch, turn, outcome, Way::Pick(view)),
+        let view_id = ViewId { id, view };
+        match self.picked(view_id) {
+            Pick::Known(outcome) => self.learn_at(epoch, view_id, outcome, Way::Telling),
+            Pick::Learned(outcome) => self.learn_at(epoch, view_id, outcome, Way::Pick(view)),
             Pick::Propose(outcome) => {
                 self.send(epoch, id, view, Body::Accept(outcome))?;
-                self.propose_at(turn, outcome);
+                self.propose_at(view_id, outcome);
                 Ok(())
             }
             Pick::Short(_) => Ok(()),

@@ -1,22 +1,25 @@
 //! A message is taken.
 ghost use Rattle.std.specs.Prelude.{◌≡◌, ◌<◌, ◌≤◌, ◌++◌, true, None, OnOk, OnErr, is_some, vec_len, vec_capacity, slice_get};
 ghost use Rattle.mk_quorum.specs.Sizes.{members};
-ghost use Rattle.mk_record.specs.Entries.{entry_of};
-ghost use Rattle.mk_msg.specs.Links.{goes_to_replica as goes_to_replica_of};
-ghost use Rattle.mk_column.specs.ColumnState.{entries_at};
+ghost use Rattle.mk_words.specs.Entries.{entry_of};
+ghost use Rattle.mk_words.specs.Links.{goes_to_replica as goes_to_replica_of};
+ghost use Rattle.mk_model.specs.ColumnState.{entries_at};
 ghost use Rattle.mk_column.specs.ColumnByCode.{finish_kept};
-ghost use Rattle.mk_column.specs.declared.Step.TheVariants.{Take};
-ghost use Rattle.mk_column.specs.Conditions.{is_idle, blocked as blocked_by};
+ghost use Rattle.mk_words.specs.declared.Step.TheVariants.{Take};
+ghost use Rattle.mk_model.specs.Conditions.{is_idle, blocked as blocked_by};
 ghost use Rattle.mk_column.specs.HeldByCode.{sent_of};
-ghost use Rattle.mk_column.specs.Learnings.{txn_of, is_final as is_final_entry, is_finished_by as finishes_in, finished_by};
-ghost use Rattle.mk_column.specs.Replicas.{serves as serves_epoch};
-ghost use Rattle.mk_column.specs.Steps.{delivered, column_after};
+ghost use Rattle.mk_model.specs.Learnings.{txn_of, is_final as is_final_entry, is_finished_by as finishes_in};
+ghost use Rattle.mk_column.specs.StepsByCode.{finished_by};
+ghost use Rattle.mk_model.specs.Replicas.{serves as serves_epoch};
+ghost use Rattle.mk_model.specs.Steps.{column_after};
+ghost use Rattle.mk_column.specs.StepsByCode.{delivered};
 
 use crate::column::Column;
 use crate::conditions::serves;
 use crate::learned::{Learned, Way};
-use mk_msg::{Body, Link, Msg};
+use mk_msg::Link;
 use mk_txn::{NoMemory, Outcome, TxnId};
+use mk_words::{Body, Msg};
 
 impl Column {
     // Whether the attempt is stamped.
@@ -44,7 +47,7 @@ impl Column {
         requires { replica < members self.now.setting.faults }
         ensures { result ≡ is_final_entry (entry_of id (entries_at self.now.state replica)) }
     {
-        match self.replicas[replica as usize].find(id) {
+        match self.parts.replicas[replica as usize].find(id) {
             Some(entry) => entry.last.is_some(),
             None => false,
         }
@@ -81,7 +84,7 @@ impl Column {
         ensures ok { OnOk result (self.new ≡ record self.old { state = column_after self.old.setting self.old.state (Take number) }) }
         ensures err { OnErr result (self.new ≡ self.old) }
     {
-        let msg = *self.link.get(number).unwrap();
+        let msg = *self.parts.link.get(number).unwrap();
         if goes_to_replica(&msg.body) {
             self.deliver(&msg)
         } else if msg.view == 0 {
@@ -104,15 +107,15 @@ impl Column {
         let Some(view) = self.views.get(msg.replica as usize) else {
             return Ok(());
         };
-        let Some(txn) = self.attempts.txn(msg.id) else {
+        let Some(txn) = self.parts.attempts.txn(msg.id) else {
             return Ok(());
         };
-        self.link.reserve(1)?;
-        self.learned.reserve(1)?;
-        let reaction = self.replicas[msg.replica as usize].take(alloc, txn, msg, view)?;
-        self.work = reaction.work;
-        send_answer(&mut self.link, msg, reaction.answer);
-        learn_finish(&mut self.learned, msg.id, finished);
+        self.parts.link.reserve(1)?;
+        self.parts.learned.reserve(1)?;
+        let reaction = self.parts.replicas[msg.replica as usize].take(alloc, txn, msg, view)?;
+        self.parts.work = reaction.work;
+        send_answer(&mut self.parts.link, msg, reaction.answer);
+        learn_finish(&mut self.parts.learned, msg.id, finished);
         Ok(())
     }
 }

@@ -1,15 +1,15 @@
 //! The key calls under way.
 ghost use Rattle.std.specs.Prelude.{◌≡◌};
-ghost use Rattle.mk_column.specs.Conditions.{wanted, is_idle};
+ghost use Rattle.mk_model.specs.Conditions.{wanted, is_idle};
 ghost use Rattle.mk_column.specs.HeldByCode.{work_of};
 
 use crate::KeyCall;
-use mk_cell::Act;
 use mk_txn::{Txn, TxnId};
 use mk_valid::{Finishing, Validation};
+use mk_words::Act;
 
 /// A read, the validation of a transaction, or its end at a replica.
-#[derive(Drop, Debug)]
+#[derive(Drop)]
 pub(crate) enum Work {
     Idle,
     Fetching {

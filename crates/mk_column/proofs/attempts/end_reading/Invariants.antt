@@ -1,5 +1,5 @@
 use Rattle.std.proofs.Common.{◌≡◌}
-use Rattle.mk_column.specs.Logs.{not_reading}
+use Rattle.mk_model.specs.Logs.{not_reading}
 use Rattle.mk_column.specs.AttemptsByCode.{on_state}
 use Rattle.mk_column.proofs.EachMapped.{first_mapped}
 use Rattle.mk_column.proofs.attempts.end_reading.Given as goal

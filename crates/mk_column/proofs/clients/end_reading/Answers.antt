@@ -5,7 +5,8 @@ use Rattle.mk_column.proofs.clients.end_reading.Goals as goal
 
 pub loop-client-preserved : goal.loop-client-preserved
 loop-client-preserved c =
-    first_mapped-step not_reading c.loop-client.client-index c.args.clients.now c.loop-client.clients (record { number = 0; last_time = 0; next_seq = 0; heard = 0; reading = false }) _ c.loop-client.invariant refl
+    first_mapped-step not_reading c.loop-client.client-index c.args.clients.now c.loop-client.clients
+    (record { number = 0; last_time = 0; next_seq = 0; heard = 0; reading = false }) _ c.loop-client.invariant refl
 
 pub returns : goal.returns
 returns c =

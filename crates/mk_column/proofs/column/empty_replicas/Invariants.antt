@@ -1,6 +1,6 @@
 use Rattle.std.proofs.Common.{◌≡◌}
 use Rattle.std.specs.Prelude.{replicate}
-use Rattle.mk_column.specs.Replicas.{nothing_held}
+use Rattle.mk_model.specs.Replicas.{nothing_held}
 use Rattle.mk_column.proofs.column.empty_replicas.Given as goal
 
 -- so many replicas so far

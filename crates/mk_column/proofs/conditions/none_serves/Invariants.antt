@@ -1,6 +1,6 @@
 use Rattle.std.proofs.Common.{◌≡◌, false, take}
 use Rattle.std.specs.List.{list_any}
-use Rattle.mk_column.specs.Conditions.{serves_from}
+use Rattle.mk_model.specs.Conditions.{serves_from}
 use Rattle.mk_column.proofs.conditions.none_serves.Given as goal
 
 -- none so far serves

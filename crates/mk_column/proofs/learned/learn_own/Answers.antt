@@ -1,7 +1,7 @@
 use Rattle.std.proofs.Common.{◌≡◌, IsSome, sym, ap, subst, ◌∙◌}
 use Rattle.std.specs.Option.{option_or}
 use Rattle.std.specs.Prelude.{Some}
-use Rattle.mk_column.specs.Steps.{taught}
+use Rattle.mk_model.specs.Steps.{taught}
 use Rattle.mk_column.specs.AttemptsByCode.{BegunView, begun_of, change_begun, on_state}
 use Rattle.mk_column.proofs.KeptLaws.{some-after}
 use Rattle.mk_column.proofs.KeptSteps.{taught-gentle}
@@ -14,4 +14,5 @@ decide-requires c =
 
 pub returns-clause-attempts : goal.returns-clause-attempts
 returns-clause-attempts c =
-    c.decide.ensures ∙ ap (change_begun c.args.lesson.id (λ (b : BegunView). record b { decided = option_or b.decided (Some c.args.lesson.outcome) })) c.learn.ensures
+    c.decide.ensures
+    ∙ ap (change_begun c.args.lesson.id (λ (b : BegunView). record b { decided = option_or b.decided (Some c.args.lesson.outcome) })) c.learn.ensures

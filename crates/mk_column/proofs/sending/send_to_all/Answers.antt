@@ -9,7 +9,8 @@ loop-replica-preserved c =
     let end = c.n-replica-end.result in
     let link = c.loop-replica.link in
     let test : r < end = c.loop-replica-test.true in
-    let pushed : c.send.new.self.messages ≡ link.messages ++ record { epoch = c.args.epoch; id = c.args.id; replica = r; view = c.args.view; body = c.args.body } ∷ [] = search rules in
+    let pushed : c.send.new.self.messages ≡ link.messages ++ record { epoch = c.args.epoch; id = c.args.id; replica = r; view = c.args.view; body = c.args.body } ∷ [] =
+    search rules in
     let room : end - r ≤ link.spare = c.loop-replica.invariant.1 in
     let less : link.spare ≤ c.send.new.self.spare + 1 = c.send.ensures.spare in (
       omega (arith, test),

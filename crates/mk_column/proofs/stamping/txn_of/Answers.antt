@@ -10,14 +10,18 @@ pub unreachable-requires-in-Err-Repeated : goal.unreachable-requires-in-Err-Repe
 unreachable-requires-in-Err-Repeated c =
     let seen : c.as_slice.result.now ≡ c.args.reads.now = c.as_slice.ensures.value ∙ c.reads.view_is in
     let none : txn_fault c.args.stamp c.as_slice.result.now c.args.writes.now ≡ None =
-    none-faulty c.args.stamp c.as_slice.result.now c.args.writes.now (subst ReadsFit (sym c.as_slice.ensures.value) c.reads.invariant) (ap (is_above_reads c.args.stamp) seen ∙ c.requires.above) c.requires.few c.requires.distinct in
-    let memory : c.in-Err-Repeated.field-0 ≡ NoMemory = only-memory c.in-Err-Repeated.field-0 c.args.stamp c.as_slice.result.now c.args.writes.now none c.in-Err-Repeated.ensures.err in
+    none-faulty c.args.stamp c.as_slice.result.now c.args.writes.now (subst ReadsFit (sym c.as_slice.ensures.value) c.reads.invariant)
+    (ap (is_above_reads c.args.stamp) seen ∙ c.requires.above) c.requires.few c.requires.distinct in
+    let memory : c.in-Err-Repeated.field-0 ≡ NoMemory =
+    only-memory c.in-Err-Repeated.field-0 c.args.stamp c.as_slice.result.now c.args.writes.now none c.in-Err-Repeated.ensures.err in
     cc (memory, c.in-Err-Repeated.field-0-is)
 
 pub unreachable-requires-in-Err-NotAbove : goal.unreachable-requires-in-Err-NotAbove
 unreachable-requires-in-Err-NotAbove c =
     let seen : c.as_slice.result.now ≡ c.args.reads.now = c.as_slice.ensures.value ∙ c.reads.view_is in
     let none : txn_fault c.args.stamp c.as_slice.result.now c.args.writes.now ≡ None =
-    none-faulty c.args.stamp c.as_slice.result.now c.args.writes.now (subst ReadsFit (sym c.as_slice.ensures.value) c.reads.invariant) (ap (is_above_reads c.args.stamp) seen ∙ c.requires.above) c.requires.few c.requires.distinct in
-    let memory : c.in-Err-NotAbove.field-0 ≡ NoMemory = only-memory c.in-Err-NotAbove.field-0 c.args.stamp c.as_slice.result.now c.args.writes.now none c.in-Err-NotAbove.ensures.err in
+    none-faulty c.args.stamp c.as_slice.result.now c.args.writes.now (subst ReadsFit (sym c.as_slice.ensures.value) c.reads.invariant)
+    (ap (is_above_reads c.args.stamp) seen ∙ c.requires.above) c.requires.few c.requires.distinct in
+    let memory : c.in-Err-NotAbove.field-0 ≡ NoMemory =
+    only-memory c.in-Err-NotAbove.field-0 c.args.stamp c.as_slice.result.now c.args.writes.now none c.in-Err-NotAbove.ensures.err in
     cc (memory, c.in-Err-NotAbove.field-0-is)

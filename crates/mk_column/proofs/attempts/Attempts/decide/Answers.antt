@@ -1,11 +1,12 @@
 use Rattle.std.proofs.Common.{◌≡◌, Some, ap, ◌∙◌, refl}
 use Rattle.std.specs.Prelude.{slice_set}
-use Rattle.mk_txn.specs.Transactions.{same_id, id_cmp}
-use Rattle.mk_txn.proofs.IdOrder.{same_id-tells, same_id-itself, id_cmp-equal}
+use Rattle.mk_txn.specs.Transactions.{same_id}
+use Rattle.mk_txn.proofs.IdOrder.{same_id-tells, same_id-itself}
 use Rattle.std.specs.Option.{option_or}
 use Rattle.mk_txn.specs.declared.Outcome.{Outcome}
 use Rattle.mk_column.specs.AttemptsByCode.{BegunView, begun_id, change_begun}
-use Rattle.mk_column.proofs.TableLaws.{written-changes, IsIndexed-changed}
+use Rattle.mk_lists.proofs.KeyedLists.{written-changes}
+use Rattle.mk_column.proofs.TableLaws.{IsIndex-changed}
 use Rattle.mk_column.proofs.attempts.Attempts.decide.Goals as goal
 
 abbrev step : Outcome → BegunView → BegunView
@@ -16,12 +17,14 @@ invariant_of-self c =
     let f = step c.args.outcome in
     let items = c.self.inside.items.items in
     let set : slice_set items c.place-place.result c.decide.new.self ≡ change_begun c.args.id f items =
-    ap (slice_set items c.place-place.result) c.decide.ensures ∙ written-changes same_id id_cmp begun_id same_id-tells same_id-itself id_cmp-equal c.args.id f items c.args.self.now c.place-place.result c.index_mut.result.now c.self.view_is c.index_mut.ensures.value c.place-place.ensures.changed in
-    IsIndexed-changed same_id id_cmp begun_id same_id-tells same_id-itself id_cmp-equal c.args.id f (λ begun. refl) items _ _ set c.self.invariant
+    ap (slice_set items c.place-place.result) c.decide.ensures
+    ∙ written-changes same_id begun_id same_id-tells same_id-itself c.args.id f items c.args.self.now c.place-place.result c.index_mut.result.now c.self.view_is c.index_mut.ensures.value c.place-place.ensures.changed in
+    IsIndex-changed same_id begun_id same_id-tells c.args.id f (λ begun. refl) items _ _ set c.self.invariant
 
 pub returns : goal.returns
 returns c =
     let f = step c.args.outcome in
     let items = c.self.inside.items.items in
-    ap (slice_set items c.place-place.result) c.decide.ensures ∙ written-changes same_id id_cmp begun_id same_id-tells same_id-itself id_cmp-equal c.args.id f items c.args.self.now c.place-place.result c.index_mut.result.now c.self.view_is c.index_mut.ensures.value c.place-place.ensures.changed
+    ap (slice_set items c.place-place.result) c.decide.ensures
+    ∙ written-changes same_id begun_id same_id-tells same_id-itself c.args.id f items c.args.self.now c.place-place.result c.index_mut.result.now c.self.view_is c.index_mut.ensures.value c.place-place.ensures.changed
     ∙ ap (change_begun c.args.id f) c.self.view_is

@@ -1,30 +1,35 @@
-use Rattle.std.proofs.Common.{◌≡◌, ◌<◌, Some, None, sym, ap, ◌∙◌, subst, length}
-use Rattle.std.proofs.lemmas.Bool.{false≢true}
-use Rattle.std.specs.Prelude.{option_copied, IsSome}
-use Rattle.std.specs.Ordering.{nat_cmp}
-use Rattle.mk_column.proofs.NumberOrder.{same_number-tells, same_number-itself, nat_cmp-equal}
+use Rattle.std.proofs.Common.{◌≡◌, ◌<◌, ℕ, Option, Some, None, sym, ap, ◌∙◌, subst, refl, length}
+use Rattle.std.specs.Prelude.{IsSome}
+use Rattle.std.specs.List.{position}
+use Rattle.mk_column.proofs.Numbers.{same_number-tells, same_number-itself}
 use Rattle.mk_column.specs.ClientsByCode.{number_of, same_number, kept_client}
-use Rattle.mk_column.specs.Tables.{kept_place}
-use Rattle.mk_column.proofs.TableLaws.{place_within, place_holds, place_missing, place_changes}
+use Rattle.mk_lists.proofs.KeyedLists.{place_within, place_holds, place_missing, place_changes}
 use Rattle.mk_column.proofs.clients.Clients.place.Goals as goal
 
-pub unreachable-requires : goal.unreachable-requires
-unreachable-requires c =
-    let none : kept_place nat_cmp c.self.inside.places.entries c.args.number ≡ None = sym c.get.ensures.value ∙ ap option_copied c.in-None.is in
-    let away : kept_client c.args.number c.args.self.now ≡ None = ap (kept_client c.args.number) (sym c.self.view_is) ∙ place_missing same_number nat_cmp number_of same_number-tells same_number-itself nat_cmp-equal c.args.number c.self.inside.items.items c.self.inside.places.entries c.self.invariant none in
-    false≢true (subst IsSome away c.requires)
+pub unwrap-requires : goal.unwrap-requires
+unwrap-requires c = by_place c.get_index_of.result refl
+  where
+    by_place : (place : Option ℕ) → c.get_index_of.result ≡ place → IsSome place
+    by_place (Some place) e = refl
+    by_place None e =
+        let none : position (same_number c.args.number) c.self.inside.numbers.keys ≡ None = sym c.get_index_of.ensures.index ∙ e in
+        let away = place_missing same_number number_of same_number-tells same_number-itself c.args.number c.self.inside.items.items c.self.inside.numbers.keys c.self.invariant none in
+        subst IsSome (sym (ap (kept_client c.args.number) c.self.view_is) ∙ away) c.requires
+
+at : (c : goal.After-unwrap) → position (same_number c.args.number) c.self.inside.numbers.keys ≡ Some c.unwrap.result
+at c = sym c.get_index_of.ensures.index ∙ c.unwrap.ensures
 
 pub returns-clause-within : goal.returns-clause-within
 returns-clause-within c =
-    let kept : kept_place nat_cmp c.self.inside.places.entries c.args.number ≡ Some c.in-Some.place.now = sym c.get.ensures.value ∙ ap option_copied c.in-Some.is in
-    subst (λ all. c.in-Some.place.now < length all) c.self.view_is (place_within same_number nat_cmp number_of same_number-tells same_number-itself nat_cmp-equal c.args.number c.self.inside.items.items c.self.inside.places.entries c.in-Some.place.now c.self.invariant kept)
+    subst (λ all. c.unwrap.result < length all) c.self.view_is
+    (place_within same_number number_of same_number-tells same_number-itself c.args.number c.self.inside.items.items c.self.inside.numbers.keys c.unwrap.result c.self.invariant (at c))
 
 pub returns-clause-found : goal.returns-clause-found
 returns-clause-found c =
-    let kept : kept_place nat_cmp c.self.inside.places.entries c.args.number ≡ Some c.in-Some.place.now = sym c.get.ensures.value ∙ ap option_copied c.in-Some.is in
-    λ client. rw (sym c.self.view_is) (place_holds same_number nat_cmp number_of same_number-tells same_number-itself nat_cmp-equal c.args.number c.self.inside.items.items c.self.inside.places.entries c.in-Some.place.now client c.self.invariant kept)
+    λ client. rw (sym c.self.view_is)
+    (place_holds same_number number_of same_number-tells same_number-itself c.args.number c.self.inside.items.items c.self.inside.numbers.keys c.unwrap.result client c.self.invariant (at c))
 
 pub returns-clause-changed : goal.returns-clause-changed
 returns-clause-changed c =
-    let kept : kept_place nat_cmp c.self.inside.places.entries c.args.number ≡ Some c.in-Some.place.now = sym c.get.ensures.value ∙ ap option_copied c.in-Some.is in
-    λ f client. rw (sym c.self.view_is) (place_changes same_number nat_cmp number_of same_number-tells same_number-itself nat_cmp-equal c.args.number c.self.inside.items.items c.self.inside.places.entries c.in-Some.place.now f client c.self.invariant kept)
+    λ f client. rw (sym c.self.view_is)
+    (place_changes same_number number_of same_number-tells same_number-itself c.args.number c.self.inside.items.items c.self.inside.numbers.keys c.unwrap.result f client c.self.invariant (at c))

@@ -6,4 +6,5 @@ pub returns-then-not-is_heard_at-clause-ok : goal.returns-then-not-is_heard_at-c
 returns-then-not-is_heard_at-clause-ok c =
     let old = c.args.self.now in
     let off : c.is_heard_at.result ≡ false = search rules in
-    ap (λ state. record old { state = state }) (unheard-state old.setting old.state c.args.msg.now c.requires.view c.requires.goes (sym c.is_heard_at.ensures ∙ off))
+    ap (λ state. record old { state = state })
+    (unheard-state old.setting old.state c.args.msg.now c.requires.view c.requires.goes (sym c.is_heard_at.ensures ∙ off))

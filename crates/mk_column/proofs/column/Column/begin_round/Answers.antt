@@ -10,4 +10,5 @@ returns-clause-after c = round-view c.args.self.now _ _ c.args.views.items _ _ c
 
 pub returns-clause-grown : goal.returns-clause-grown
 returns-clause-grown c =
-    round-grown c.args.self.now _ c.args.views.items (round-view c.args.self.now _ _ c.args.views.items _ _ c.end_reading.ensures c.end_reading-2.ensures _ _ _ _ _ c.self.view_is)
+    round-grown c.args.self.now _ c.args.views.items
+    (round-view c.args.self.now _ _ c.args.views.items _ _ c.end_reading.ensures c.end_reading-2.ensures _ _ _ _ _ c.self.view_is)

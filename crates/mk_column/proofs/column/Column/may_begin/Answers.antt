@@ -7,13 +7,14 @@ use Rattle.mk_column.proofs.column.Column.may_begin.Goals as goal
 
 pub returns-in-Some : goal.returns-in-Some
 returns-in-Some c =
-    let found : kept_client c.args.client c.self.inside.clients ≡ Some c.in-Some.client.now = sym c.find.ensures ∙ ap option_copied c.in-Some.is in
-    let clients : c.args.self.now.state.clients ≡ client_states c.self.inside.clients = ap (λ column. column.state.clients) (sym c.self.view_is) in
-    let attempts : c.args.self.now.state.attempts ≡ states_of c.self.inside.attempts = ap (λ column. column.state.attempts) (sym c.self.view_is) in
-    sym (may_begin-found c.args.client c.args.self.now.state c.self.inside.clients c.self.inside.attempts c.in-Some.client.now clients attempts c.self.invariant.clients found)
+    let found : kept_client c.args.client c.self.inside.parts.clients ≡ Some c.in-Some.client.now = sym c.find.ensures ∙ ap option_copied c.in-Some.is in
+    let clients : c.args.self.now.state.clients ≡ client_states c.self.inside.parts.clients = ap (λ column. column.state.clients) (sym c.self.view_is) in
+    let attempts : c.args.self.now.state.attempts ≡ states_of c.self.inside.parts.attempts = ap (λ column. column.state.attempts) (sym c.self.view_is) in
+    sym
+    (may_begin-found c.args.client c.args.self.now.state c.self.inside.parts.clients c.self.inside.parts.attempts c.in-Some.client.now clients attempts c.self.invariant.clients found)
 
 pub returns-in-None : goal.returns-in-None
 returns-in-None c =
-    let none : kept_client c.args.client c.self.inside.clients ≡ None = sym c.find.ensures ∙ ap option_copied c.in-None.is in
-    let clients : c.args.self.now.state.clients ≡ client_states c.self.inside.clients = ap (λ column. column.state.clients) (sym c.self.view_is) in
-    sym (may_begin-none c.args.client c.args.self.now.state c.self.inside.clients clients none)
+    let none : kept_client c.args.client c.self.inside.parts.clients ≡ None = sym c.find.ensures ∙ ap option_copied c.in-None.is in
+    let clients : c.args.self.now.state.clients ≡ client_states c.self.inside.parts.clients = ap (λ column. column.state.clients) (sym c.self.view_is) in
+    sym (may_begin-none c.args.client c.args.self.now.state c.self.inside.parts.clients clients none)

@@ -1,5 +1,5 @@
 use Rattle.std.proofs.Common.{◌++◌, ap, ◌∙◌}
-use Rattle.mk_column.specs.ColumnState.{to_all}
+use Rattle.mk_model.specs.ColumnState.{to_all}
 use Rattle.mk_column.proofs.KeptSteps.{IsKept-sends, to_all-quiet, to_all-there, other-kind}
 use Rattle.mk_column.proofs.column.Column.send.Goals as goal
 

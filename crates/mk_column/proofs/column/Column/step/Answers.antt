@@ -1,5 +1,5 @@
 use Rattle.std.proofs.Common.{◌≡◌, None, sym, subst, ◌∙◌, ◌∷◌, ◌++◌, []}
-use Rattle.mk_column.specs.Conditions.{blocked as blocked_by}
+use Rattle.mk_model.specs.Conditions.{blocked as blocked_by}
 use Rattle.mk_column.specs.ColumnByCode.{ColumnView}
 use Rattle.mk_column.specs.Growing.{HasGrown}
 use Rattle.mk_column.proofs.GrownSteps.{step-grown}

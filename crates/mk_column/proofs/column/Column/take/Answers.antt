@@ -1,8 +1,8 @@
 use Rattle.std.proofs.Common.{sym, subst}
 use Rattle.std.specs.Prelude.{IsSome}
-use Rattle.mk_msg.specs.Links.{message}
-use Rattle.mk_column.specs.declared.Step.TheVariants.{Take}
-use Rattle.mk_column.proofs.Frames.{enabled}
+use Rattle.mk_words.specs.Links.{message}
+use Rattle.mk_words.specs.declared.Step.TheVariants.{Take}
+use Rattle.mk_model.proofs.Frames.{enabled}
 use Rattle.mk_column.proofs.BeginLaws.{some-of-copied}
 use Rattle.mk_column.proofs.column.Column.take.Goals as goal
 

@@ -1,6 +1,7 @@
 use Rattle.std.proofs.Common.{◌≡◌, Some, sym, ap, subst, ◌∙◌}
 use Rattle.std.specs.Prelude.{option_map, option_copied, OnOk}
-use Rattle.mk_column.specs.ColumnState.{attempt_of, shown}
+use Rattle.mk_model.specs.ColumnState.{attempt_of}
+use Rattle.mk_column.specs.ColumnState.{shown}
 use Rattle.mk_column.proofs.TakeoverLaws.{takeover-state}
 use Rattle.mk_column.proofs.column.Column.take_over.Goals as goal
 

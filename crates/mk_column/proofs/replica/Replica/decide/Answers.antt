@@ -1,6 +1,6 @@
 use Rattle.std.proofs.Common.{◌≡◌, Some, sym, ap, ◌∙◌}
-use Rattle.mk_record.specs.Entries.{entry_of, last_in}
-use Rattle.mk_column.specs.Replicas.{Held, ignored, with_entry, entry_or_opened}
+use Rattle.mk_words.specs.Entries.{entry_of, last_in}
+use Rattle.mk_model.specs.Replicas.{Held, ignored, with_entry, entry_or_opened}
 use Rattle.mk_column.proofs.ReplicaLaws.{decide-final}
 use Rattle.mk_column.proofs.replica.Replica.decide.Goals as goal
 
@@ -14,5 +14,6 @@ returns-in-Err-clause-ok c =
     let same : new ≡ opened = ap (λ entries. record { entries = entries; marks = c.self-2.inside.marks }) c.in-Err.ensures.err ∙ c.self-2.view_is in
     let is : opened ≡ with_entry txn old (entry_of txn.id old.entries) = c.in_ok-open.ensures.ok in
     let there : entry_of txn.id opened.entries ≡ Some (entry_or_opened txn (entry_of txn.id old.entries)) = c.in_ok-open.ensures.there in
-    let final : last_in msg.id opened.entries ≡ Some c.in-Err._kept = ap (λ held. last_in msg.id held.entries) (sym c.self-2.view_is) ∙ c.in-Err.ensures.finished in
+    let final : last_in msg.id opened.entries ≡ Some c.in-Err._kept =
+    ap (λ held. last_in msg.id held.entries) (sym c.self-2.view_is) ∙ c.in-Err.ensures.finished in
     c.nothing.ensures new msg ∙ ap ignored same ∙ decide-final c.args.outcome c.in-Err._kept txn old opened msg c.requires is there final

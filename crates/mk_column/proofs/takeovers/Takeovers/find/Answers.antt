@@ -1,20 +1,25 @@
 use Rattle.std.proofs.Common.{◌≡◌, Some, None, sym, ap, ◌∙◌, rules}
 use Rattle.std.specs.Prelude.{option_copied, slice_get}
-use Rattle.mk_column.proofs.TurnOrder.{same_turn-tells, same_turn-itself, turn_cmp-equal}
-use Rattle.mk_column.specs.TakeoversByCode.{same_turn, turn_cmp, turn_of, backup_of}
-use Rattle.mk_column.specs.Tables.{kept_place}
-use Rattle.mk_column.proofs.TableLaws.{got-at, place_finds, place_missing}
+use Rattle.std.specs.List.{position}
+use Rattle.mk_column.proofs.ViewIds.{same_view_id-tells, same_view_id-itself}
+use Rattle.mk_column.specs.TakeoversByCode.{same_view_id, view_id_of, backup_of}
+use Rattle.mk_lists.proofs.KeyedLists.{got-at, place_finds, place_missing}
 use Rattle.mk_column.proofs.takeovers.Takeovers.find.Goals as goal
 
 pub returns-in_err-place : goal.returns-in_err-place
 returns-in_err-place c =
-    let none : kept_place turn_cmp c.self.inside.places.entries c.args.turn ≡ None = sym c.get.ensures.value ∙ ap option_copied c.in_err-place.was in
+    let none : position (same_view_id c.args.view_id) c.self.inside.ids.keys ≡ None = sym c.get_index_of.ensures.index ∙ c.in_err-place.was in
     let left : option_copied c.from_residual.result ≡ None = search rules in
-    left ∙ sym (place_missing same_turn turn_cmp turn_of same_turn-tells same_turn-itself turn_cmp-equal c.args.turn c.self.inside.items.items c.self.inside.places.entries c.self.invariant none) ∙ ap (backup_of c.args.turn) c.self.view_is
+    left
+    ∙ sym (place_missing same_view_id view_id_of same_view_id-tells same_view_id-itself c.args.view_id c.self.inside.items.items c.self.inside.ids.keys c.self.invariant none)
+    ∙ ap (backup_of c.args.view_id) c.self.view_is
 
 pub returns : goal.returns
 returns c =
-    let kept : kept_place turn_cmp c.self.inside.places.entries c.args.turn ≡ Some c.in_ok-place.place.now = sym c.get.ensures.value ∙ ap option_copied c.in_ok-place.was in
-    let read : option_copied c.get-2.result ≡ slice_get c.self.inside.items.items c.in_ok-place.place.now =
-    got-at same_turn turn_cmp turn_of same_turn-tells same_turn-itself turn_cmp-equal c.deref.result.now c.in_ok-place.place.now c.get-2.result c.get-2.ensures.lookup ∙ ap (λ all. slice_get all c.in_ok-place.place.now) c.deref.ensures.value in
-    read ∙ place_finds same_turn turn_cmp turn_of same_turn-tells same_turn-itself turn_cmp-equal c.args.turn c.self.inside.items.items c.self.inside.places.entries c.in_ok-place.place.now c.self.invariant kept ∙ ap (backup_of c.args.turn) c.self.view_is
+    let place = c.in_ok-place.place in
+    let at : position (same_view_id c.args.view_id) c.self.inside.ids.keys ≡ Some place = sym c.get_index_of.ensures.index ∙ c.in_ok-place.was in
+    let read : option_copied c.get.result ≡ slice_get c.self.inside.items.items place =
+    got-at c.deref.result.now place c.get.result c.get.ensures.lookup ∙ ap (λ all. slice_get all place) c.deref.ensures.value in
+    read
+    ∙ place_finds same_view_id view_id_of same_view_id-tells same_view_id-itself c.args.view_id c.self.inside.items.items c.self.inside.ids.keys place c.self.invariant at
+    ∙ ap (backup_of c.args.view_id) c.self.view_is

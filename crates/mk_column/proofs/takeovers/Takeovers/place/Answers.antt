@@ -1,29 +1,35 @@
-use Rattle.std.proofs.Common.{◌≡◌, ◌<◌, Some, None, sym, ap, ◌∙◌, subst, length}
-use Rattle.std.proofs.lemmas.Bool.{false≢true}
-use Rattle.std.specs.Prelude.{option_copied, IsSome}
-use Rattle.mk_column.proofs.TurnOrder.{same_turn-tells, same_turn-itself, turn_cmp-equal}
-use Rattle.mk_column.specs.TakeoversByCode.{same_turn, turn_cmp, turn_of, backup_of}
-use Rattle.mk_column.specs.Tables.{kept_place}
-use Rattle.mk_column.proofs.TableLaws.{place_within, place_holds, place_missing, place_changes}
+use Rattle.std.proofs.Common.{◌≡◌, ◌<◌, ℕ, Option, Some, None, sym, ap, ◌∙◌, subst, refl, length}
+use Rattle.std.specs.Prelude.{IsSome}
+use Rattle.std.specs.List.{position}
+use Rattle.mk_column.proofs.ViewIds.{same_view_id-tells, same_view_id-itself}
+use Rattle.mk_column.specs.TakeoversByCode.{same_view_id, view_id_of, backup_of}
+use Rattle.mk_lists.proofs.KeyedLists.{place_within, place_holds, place_missing, place_changes}
 use Rattle.mk_column.proofs.takeovers.Takeovers.place.Goals as goal
 
-pub unreachable-requires : goal.unreachable-requires
-unreachable-requires c =
-    let none : kept_place turn_cmp c.self.inside.places.entries c.args.turn ≡ None = sym c.get.ensures.value ∙ ap option_copied c.in-None.is in
-    let away : backup_of c.args.turn c.args.self.now ≡ None = ap (backup_of c.args.turn) (sym c.self.view_is) ∙ place_missing same_turn turn_cmp turn_of same_turn-tells same_turn-itself turn_cmp-equal c.args.turn c.self.inside.items.items c.self.inside.places.entries c.self.invariant none in
-    false≢true (subst IsSome away c.requires)
+pub unwrap-requires : goal.unwrap-requires
+unwrap-requires c = by_place c.get_index_of.result refl
+  where
+    by_place : (place : Option ℕ) → c.get_index_of.result ≡ place → IsSome place
+    by_place (Some place) e = refl
+    by_place None e =
+        let none : position (same_view_id c.args.view_id) c.self.inside.ids.keys ≡ None = sym c.get_index_of.ensures.index ∙ e in
+        let away = place_missing same_view_id view_id_of same_view_id-tells same_view_id-itself c.args.view_id c.self.inside.items.items c.self.inside.ids.keys c.self.invariant none in
+        subst IsSome (sym (ap (backup_of c.args.view_id) c.self.view_is) ∙ away) c.requires
+
+at : (c : goal.After-unwrap) → position (same_view_id c.args.view_id) c.self.inside.ids.keys ≡ Some c.unwrap.result
+at c = sym c.get_index_of.ensures.index ∙ c.unwrap.ensures
 
 pub returns-clause-within : goal.returns-clause-within
 returns-clause-within c =
-    let kept : kept_place turn_cmp c.self.inside.places.entries c.args.turn ≡ Some c.in-Some.place.now = sym c.get.ensures.value ∙ ap option_copied c.in-Some.is in
-    subst (λ all. c.in-Some.place.now < length all) c.self.view_is (place_within same_turn turn_cmp turn_of same_turn-tells same_turn-itself turn_cmp-equal c.args.turn c.self.inside.items.items c.self.inside.places.entries c.in-Some.place.now c.self.invariant kept)
+    subst (λ all. c.unwrap.result < length all) c.self.view_is
+    (place_within same_view_id view_id_of same_view_id-tells same_view_id-itself c.args.view_id c.self.inside.items.items c.self.inside.ids.keys c.unwrap.result c.self.invariant (at c))
 
 pub returns-clause-found : goal.returns-clause-found
 returns-clause-found c =
-    let kept : kept_place turn_cmp c.self.inside.places.entries c.args.turn ≡ Some c.in-Some.place.now = sym c.get.ensures.value ∙ ap option_copied c.in-Some.is in
-    λ backup. rw (sym c.self.view_is) (place_holds same_turn turn_cmp turn_of same_turn-tells same_turn-itself turn_cmp-equal c.args.turn c.self.inside.items.items c.self.inside.places.entries c.in-Some.place.now backup c.self.invariant kept)
+    λ backup. rw (sym c.self.view_is)
+    (place_holds same_view_id view_id_of same_view_id-tells same_view_id-itself c.args.view_id c.self.inside.items.items c.self.inside.ids.keys c.unwrap.result backup c.self.invariant (at c))
 
 pub returns-clause-changed : goal.returns-clause-changed
 returns-clause-changed c =
-    let kept : kept_place turn_cmp c.self.inside.places.entries c.args.turn ≡ Some c.in-Some.place.now = sym c.get.ensures.value ∙ ap option_copied c.in-Some.is in
-    λ f backup. rw (sym c.self.view_is) (place_changes same_turn turn_cmp turn_of same_turn-tells same_turn-itself turn_cmp-equal c.args.turn c.self.inside.items.items c.self.inside.places.entries c.in-Some.place.now f backup c.self.invariant kept)
+    λ f backup. rw (sym c.self.view_is)
+    (place_changes same_view_id view_id_of same_view_id-tells same_view_id-itself c.args.view_id c.self.inside.items.items c.self.inside.ids.keys c.unwrap.result f backup c.self.invariant (at c))

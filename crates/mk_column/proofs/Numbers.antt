@@ -1,7 +1,6 @@
--- Laws of the order of numbers.
+-- That a test of numbers tells whether they are one.
 use Rattle.std.proofs.Common.{◌≡◌, ℕ, true, arith}
 use Rattle.std.proofs.lemmas.Bool.Decides.{nat_tests}
-use Rattle.std.specs.Ordering.{is_eq, nat_cmp}
 use Rattle.mk_column.specs.ClientsByCode.{same_number}
 
 pub same_number-tells : (a b : ℕ) → same_number a b ≡ true → a ≡ b
@@ -9,6 +8,3 @@ same_number-tells a b h = grind (arith, nat_tests, h)
 
 pub same_number-itself : (a : ℕ) → same_number a a ≡ true
 same_number-itself a = grind (arith, nat_tests)
-
-pub nat_cmp-equal : (a b : ℕ) → is_eq (nat_cmp a b) ≡ same_number a b
-nat_cmp-equal a b = grind (arith, nat_tests)
