@@ -3,7 +3,7 @@ use Rattle.std.proofs.Common.{◌≡◌, ◌<◌, ◌≤◌, ℕ, zero, suc, ◌
 use Rattle.std.proofs.Common.{append_assoc}
 use Rattle.std.specs.Prelude.{flat_map, slice_get, slice_index}
 use Rattle.mk_script.specs.declared.lines.TakeoverLine.{TakeoverLine}
-use Rattle.mk_column.specs.ColumnState.{numbers_from}
+use Rattle.mk_model.specs.ColumnState.{numbers_from}
 use Rattle.mk_driver.specs.declared.Task.{Task}
 use Rattle.mk_driver.specs.declared.Caller.{Caller}
 use Rattle.mk_driver.specs.Keeping.{numbers_of}

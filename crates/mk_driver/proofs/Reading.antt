@@ -1,6 +1,6 @@
 -- The replicas in cyclic order, one after the other.
 use Rattle.std.proofs.Common.{◌≡◌, ℕ, suc, ◌+◌, ◌-◌, ◌<◌, Bool, false, refl, subst, map, find, arith}
-use Rattle.mk_column.specs.ColumnState.{numbers_from}
+use Rattle.mk_model.specs.ColumnState.{numbers_from}
 
 -- one that does not serve is passed over
 pub find-over : (test : ℕ → Bool) (g : ℕ → ℕ) (places n : ℕ) → places < n → test (g places) ≡ false →

@@ -1,17 +1,15 @@
--- How the lines of a round come to the clients.
-use Rattle.std.proofs.Common.{◌≡◌, ◌<◌, ◌≤◌, ℕ, zero, suc, ◌-◌, ◌∙◌, Bool, true, false, List, [], ◌∷◌, ◌++◌, Some, None, refl, sym, subst, ap, length, take, map, find, filter, slice_index, slice_index_or, arith, if◌then◌else◌}
-use Rattle.std.proofs.Common.{append_assoc}
+-- How a round begins: the messages that are held, and the lines that come to the clients.
+use Rattle.std.proofs.Common.{◌≡◌, ◌<◌, ◌≤◌, ℕ, zero, suc, ◌-◌, ◌∙◌, Bool, true, false, List, [], ◌∷◌, ◌++◌, Some, None, refl, sym, subst, ap, length, take, drop, map, find, slice_get, slice_set, slice_index, slice_index_or, arith}
+use Rattle.std.proofs.Math.Seq.{take-append_seam}
 use Rattle.std.specs.Prelude.{is_some}
 use Rattle.std.specs.List.{list_any}
-use Rattle.std.proofs.lemmas.List.{append-nil}
-use Rattle.std.proofs.lemmas.Bool.Decides.{nat_tests}
-use Rattle.mk_lists.specs.Changed.{change}
 use Rattle.mk_driver.specs.declared.Task.{Task}
 use Rattle.mk_driver.specs.declared.Task.TheVariants.{Take}
 use Rattle.mk_driver.specs.declared.Caller.{Caller}
+use Rattle.mk_driver.specs.declared.Request.{Request}
 use Rattle.mk_driver.specs.declared.Submission.{Submission}
-use Rattle.mk_driver.specs.Agenda.{is_caller}
-use Rattle.mk_driver.specs.Driven.{asked_more, is_submission_of, with_line}
+use Rattle.mk_driver.specs.Keeping.{numbers_of, with_lines}
+use Rattle.mk_driver.specs.Driven.{asked_more}
 
 takes-last : (n : ℕ) (xs : List ℕ) (tasks : List Task) → n < length xs →
     map (λ number. Take number) (take (suc n) xs) ++ tasks ≡ map (λ number. Take number) (take n xs) ++ Take (slice_index xs n) ∷ tasks
@@ -40,34 +38,55 @@ any-at p place (x ∷ xs) h f = any_find p (x ∷ xs) ∙ ap is_some (f x)
 pub any-none : {X : Type 0} (p : X → Bool) (xs : List X) → find p xs ≡ None → list_any p xs ≡ false
 any-none p xs e = any_find p xs ∙ ap is_some e
 
--- with nothing left, no client is asked for more
-nothing_more : (xs : List Caller) → map (asked_more []) xs ≡ xs
-nothing_more [] = refl
-nothing_more (x ∷ xs) =
-    let same : asked_more [] x ≡ x = λ i. record x { lines = append-nil x.lines i } in
-    ap (λ c. c ∷ map (asked_more []) xs) same ∙ ap (λ ys. x ∷ ys) (nothing_more xs)
+-- ---- the clients' lines
 
-pub none_left : (xs : List Caller) → map (asked_more []) xs ≡ xs
-none_left xs = nothing_more xs
+-- the next client's lines are put
+pub put-step : (i : ℕ) (callers : List Caller) (caller : Caller) (lines : List Request) (rest : List (List Request)) → slice_get callers i ≡ Some caller →
+    take i callers ++ with_lines (lines ∷ rest) (drop i callers)
+    ≡ take (suc i) (slice_set callers i (record caller { lines = lines })) ++ with_lines rest (drop (suc i) (slice_set callers i (record caller { lines = lines })))
+put-step i [] caller lines rest e = absurd (cc e)
+put-step zero (x ∷ xs) caller lines rest e =
+    let same : x ≡ caller = cc e in
+    ap (λ (y : Caller). record y { lines = lines } ∷ with_lines rest xs) same
+put-step (suc i) (x ∷ xs) caller lines rest e = ap (λ ys. x ∷ ys) (put-step i xs caller lines rest e)
 
--- the next submission comes first
-one_by : (b : Bool) (submission : Submission) (rest : List Submission) (caller : Caller) →
-    record caller { lines = caller.lines ++ map (λ (s : Submission). s.request) (if b then submission ∷ filter (is_submission_of caller.number) rest else filter (is_submission_of caller.number) rest) }
-    ≡ asked_more rest (if b then with_line submission.request caller else caller)
-one_by true submission rest caller =
-    λ i. record caller { lines = sym (append_assoc caller.lines (submission.request ∷ []) (map (λ (s : Submission). s.request) (filter (is_submission_of caller.number) rest))) i }
-one_by false submission rest caller = refl
+-- with none left, the others stay
+pub put-none : (i : ℕ) (callers : List Caller) → take i callers ++ with_lines [] (drop i callers) ≡ take (suc i) callers ++ with_lines [] (drop (suc i) callers)
+put-none zero [] = refl
+put-none zero (x ∷ xs) = refl
+put-none (suc i) [] = refl
+put-none (suc i) (x ∷ xs) = ap (λ ys. x ∷ ys) (put-none i xs)
 
-one_asked : (submission : Submission) (rest : List Submission) (caller : Caller) →
-    asked_more (submission ∷ rest) caller ≡ asked_more rest (if is_caller submission.client caller then with_line submission.request caller else caller)
-one_asked submission rest caller =
-    let turned : is_submission_of caller.number submission ≡ is_caller submission.client caller = grind (arith, nat_tests) in
-    subst (λ b. asked_more (submission ∷ rest) caller ≡ asked_more rest (if b then with_line submission.request caller else caller)) turned
-    (one_by (is_submission_of caller.number submission) submission rest caller)
+-- past the last client nothing is left to do
+pub put-end : (i : ℕ) (callers : List Caller) (lists : List (List Request)) → length callers ≤ i → take i callers ++ with_lines lists (drop i callers) ≡ callers
+put-end zero [] [] h = refl
+put-end zero [] (lines ∷ lists) h = refl
+put-end (suc i) [] [] h = refl
+put-end (suc i) [] (lines ∷ lists) h = refl
+put-end zero (x ∷ xs) lists h = absurd (omega (arith, h))
+put-end (suc i) (x ∷ xs) lists h = ap (λ ys. x ∷ ys) (put-end i xs lists (omega (arith, h)))
 
-pub one_more : (submission : Submission) (rest : List Submission) (xs : List Caller) →
-    map (asked_more (submission ∷ rest)) xs ≡ map (asked_more rest) (change (is_caller submission.client) (with_line submission.request) xs)
-one_more submission rest [] = refl
-one_more submission rest (x ∷ xs) =
-    ap (λ c. c ∷ map (asked_more (submission ∷ rest)) xs) (one_asked submission rest x)
-    ∙ ap (λ ys. asked_more rest (if is_caller submission.client x then with_line submission.request x else x) ∷ ys) (one_more submission rest xs)
+-- after the last client all have their lines
+pub put-all : (xs items : List Caller) (n i : ℕ) (lists left : List (List Request)) → n ≡ length xs → length items ≡ length xs → length xs ≤ i →
+    with_lines lists xs ≡ take i items ++ with_lines left (drop i items) → take n (items ++ drop (length items) xs) ≡ with_lines lists xs
+put-all xs items n i lists left all same h is =
+    ap (λ k. take k (items ++ drop (length items) xs)) (all ∙ sym same)
+    ∙ take-append_seam items (drop (length items) xs)
+    ∙ sym (is ∙ put-end i items left (subst (λ k. k ≤ i) (sym same) h))
+
+-- lines with those of the round are what the clients are asked for
+asked_all : (submissions : List Submission) (xs : List Caller) → with_lines (map (λ caller. (asked_more submissions caller).lines) xs) xs ≡ map (asked_more submissions) xs
+asked_all submissions [] = refl
+asked_all submissions (x ∷ xs) = ap (λ ys. asked_more submissions x ∷ ys) (asked_all submissions xs)
+
+-- the clients keep their numbers
+pub asked_numbers : (submissions : List Submission) (xs : List Caller) → numbers_of (map (asked_more submissions) xs) ≡ numbers_of xs
+asked_numbers submissions [] = refl
+asked_numbers submissions (x ∷ xs) = ap (λ ns. x.number ∷ ns) (asked_numbers submissions xs)
+
+pub submitted : (submissions : List Submission) (raw now : List Caller) (lists : List (List Request)) → raw ≡ now →
+    lists ≡ map (λ caller. (asked_more submissions caller).lines) now → with_lines lists raw ≡ map (asked_more submissions) now
+submitted submissions raw now lists v e =
+    ap (λ ls. with_lines ls raw) e
+    ∙ ap (λ xs. with_lines (map (λ caller. (asked_more submissions caller).lines) now) xs) v
+    ∙ asked_all submissions now

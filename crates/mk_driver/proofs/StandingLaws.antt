@@ -1,19 +1,21 @@
 -- What a driver with its column stands for, from step to step and from round to round.
 use Rattle.std.proofs.Common.{◌≡◌, ℕ, zero, suc, ◌+◌, ◌∙◌, List, [], ◌∷◌, ◌++◌, refl, sym, subst, ap, length, map, drop, arith}
-use Rattle.std.specs.Prelude.{◌<◌, slice_index_or, slice_get, IsSome}
-use Rattle.mk_merge.specs.declared.ReplicaView.{ReplicaView}
+use Rattle.std.specs.Prelude.{◌<◌, slice_index_or, slice_get, IsSome, None}
+use Rattle.mk_trim.specs.declared.ReplicaView.{ReplicaView}
 use Rattle.mk_script.specs.Scripts.{ScriptParts}
 use Rattle.mk_faults.specs.Fates.{RuleLines, rules_of}
-use Rattle.mk_column.specs.declared.Step.{Step}
-use Rattle.mk_column.specs.ColumnState.{Setting}
+use Rattle.mk_words.specs.declared.Step.{Step}
+use Rattle.mk_model.specs.ColumnState.{Setting, ColumnState}
+use Rattle.mk_model.specs.Conditions.{wanted}
 use Rattle.mk_column.specs.ColumnByCode.{ColumnView}
-use Rattle.mk_column.specs.Steps.{column_after}
-use Rattle.mk_column.specs.Logs.{reading_ended}
+use Rattle.mk_model.specs.Steps.{column_after}
+use Rattle.mk_model.specs.Logs.{reading_ended}
 use Rattle.mk_history.specs.Histories.{log_of}
 use Rattle.mk_driver.specs.declared.Next.{Next}
+use Rattle.mk_driver.specs.declared.Next.TheVariants.{Over}
 use Rattle.mk_driver.specs.declared.DriverState.{DriverState}
 use Rattle.mk_driver.specs.declared.RoundLines.{RoundLines}
-use Rattle.mk_driver.specs.Turns.{Choice, choice}
+use Rattle.mk_driver.specs.Turns.{Choice, choice, unless_wanted, in_agenda, in_parts, with_agenda}
 use Rattle.mk_driver.specs.Drivers.{DriverView}
 use Rattle.mk_driver.specs.Driven.{Standing, PastRound, turn, setting_in, lines_of_round, begun_round, begun_with, round_at, empty_round, standing_at, standing_past, standing_through, standing_after, standing_begun, round_ended, first_standing, new_driver, reset_by_lines}
 use Rattle.mk_driver.specs.Standings.{Stands, chosen, IsStepped, IsFirst, IsNextRound}
@@ -41,6 +43,24 @@ stands_still script rules view new column rounds views log r n e s =
       state = s.state;
       named = subst (λ rs. choice rs column.setting column.state new.driver ≡ choice rs column.setting column.state view.driver) r (sym e) ∙ s.named;
     })
+
+-- with no task and no part left, nothing is named, however often
+pub over_again : (rules : RuleLines) (round : Setting) (column : ColumnState) (driver : DriverState) → wanted column.work ≡ None → driver.agenda ≡ [] → driver.parts ≡ [] →
+    choice rules round column driver ≡ record { next = Over; driver = driver }
+over_again rules round column driver w a p =
+    ap (λ call. unless_wanted rules round column call driver) w
+    ∙ ap (λ tasks. in_agenda rules round column (in_parts rules round column driver.parts) tasks driver) a
+    ∙ ap (λ parts. in_parts rules round column parts (with_agenda [] driver)) p
+    ∙ (λ i. record { next = Over; driver = record driver { agenda = sym a i } })
+
+-- so a driver that names nothing stands for what it stood for before it was asked
+pub stands_over : (script : ScriptParts) (rules : RuleLines) (view new : DriverView) (column : ColumnView) (rounds : List PastRound) (views : List ReplicaView) (log : List Step) →
+    rules ≡ rules_of script → new ≡ record view { driver = new.driver } →
+    choice rules column.setting column.state view.driver ≡ record { next = Over; driver = new.driver } →
+    choice rules column.setting column.state new.driver ≡ record { next = Over; driver = new.driver } →
+    Stands script view column rounds views log → Stands script new column rounds views log
+stands_over script rules view new column rounds views log r n e o s =
+    stands_still script rules view new column rounds views log r n (e ∙ sym o) s
 
 through-more : (script : ScriptParts) (round : Setting) (standing : Standing) (log : List Step) (step : Step) →
     standing_through script round standing (log ++ step ∷ []) ≡ standing_after script round (standing_through script round standing log) step

@@ -2,7 +2,7 @@
 use Rattle.std.specs.Prelude.{ℕ, ◌+◌, ◌-◌, Bool, ◌==◌, nat_lt, List, [], ◌∷◌, ◌++◌, length, replicate, slice_get, slice_set, Option, Some, None, find, if◌then◌else◌}
 use Rattle.mk_lists.specs.Changed.{change}
 use Rattle.mk_txn.specs.declared.TxnId.{TxnId}
-use Rattle.mk_column.specs.declared.Step.{Step}
+use Rattle.mk_words.specs.declared.Step.{Step}
 use Rattle.mk_driver.specs.declared.Task.{Task}
 use Rattle.mk_driver.specs.declared.Part.{Part}
 use Rattle.mk_driver.specs.declared.Request.{Request}

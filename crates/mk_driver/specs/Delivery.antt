@@ -3,13 +3,13 @@ use Rattle.std.specs.Prelude.{ℕ, zero, suc, ◌+◌, ◌-◌, List, [], ◌∷
 use Rattle.mk_txn.specs.declared.TxnId.{TxnId}
 use Rattle.mk_txn.specs.declared.Outcome.{Outcome}
 use Rattle.mk_txn.specs.declared.Outcome.TheVariants.{Commit, Abort}
-use Rattle.mk_msg.specs.declared.Msg.{Msg}
-use Rattle.mk_msg.specs.Links.{message}
+use Rattle.mk_words.specs.declared.Msg.{Msg}
+use Rattle.mk_words.specs.Links.{message}
 use Rattle.mk_script.specs.declared.lines.Fate.{Fate}
 use Rattle.mk_script.specs.declared.lines.Fate.TheVariants.{Deliver, Lose, Twice, Late, NextRound}
 use Rattle.mk_faults.specs.Fates.{RuleLines, fate_at}
-use Rattle.mk_column.specs.declared.Step.TheVariants.{Take as TakeStep}
-use Rattle.mk_column.specs.ColumnState.{ColumnState, AttemptState, attempt_of, numbers_from}
+use Rattle.mk_words.specs.declared.Step.TheVariants.{Take as TakeStep}
+use Rattle.mk_model.specs.ColumnState.{ColumnState, AttemptState, attempt_of, numbers_from}
 use Rattle.mk_driver.specs.declared.Task.{Task}
 use Rattle.mk_driver.specs.declared.Task.TheVariants.{Deliver as DeliverTask, DeliverSince, Take as TakeTask, Notice, Late as LateTask}
 use Rattle.mk_driver.specs.declared.DriverState.{DriverState}

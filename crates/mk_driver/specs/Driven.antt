@@ -1,25 +1,26 @@
 -- The step that a script's turns name after a log, and a run that goes by them.
 use Rattle.std.specs.Prelude.{◌≡◌, ℕ, ◌+◌, ◌<◌, Bool, ◌==◌, List, [], ◌∷◌, ◌++◌, map, length, filter, slice_index_or, if◌then◌else◌, None}
 use Rattle.std.specs.List.{list_any}
-use Rattle.mk_merge.specs.declared.ReplicaView.{ReplicaView}
-use Rattle.mk_global.specs.declared.GlobalLine.{GlobalLine}
-use Rattle.mk_global.specs.declared.GlobalLine.TheVariants.{Wipe, Ask, Promise, Merge, Adopt, Enter}
-use Rattle.mk_global.specs.declared.GlobalEntry.{GlobalEntry}
-use Rattle.mk_epoch.specs.EpochState.{views_of}
-use Rattle.mk_epoch.specs.GlobalAnswers.{is_accepted}
+use Rattle.mk_trim.specs.declared.ReplicaView.{ReplicaView}
+use Rattle.mk_words.specs.declared.GlobalLine.{GlobalLine}
+use Rattle.mk_words.specs.declared.GlobalLine.TheVariants.{Wipe, Ask, Promise, Merge, Adopt, Enter}
+use Rattle.mk_words.specs.declared.GlobalEntry.{GlobalEntry}
+use Rattle.mk_model.specs.EpochState.{views_of}
+use Rattle.mk_model.specs.GlobalAnswers.{is_accepted}
 use Rattle.mk_script.specs.Scripts.{ScriptParts}
 use Rattle.mk_script.specs.declared.lines.ClientLine.{ClientLine}
 use Rattle.mk_script.specs.declared.lines.TxnLine.{TxnLine}
 use Rattle.mk_script.specs.declared.lines.TakeoverLine.{TakeoverLine}
 use Rattle.mk_script.specs.declared.lines.Round.{Round}
 use Rattle.mk_faults.specs.Fates.{rules_of}
-use Rattle.mk_column.specs.declared.Step.{Step}
-use Rattle.mk_column.specs.declared.Step.TheVariants.{Key}
-use Rattle.mk_column.specs.ColumnState.{Setting, ColumnState, new_column}
-use Rattle.mk_column.specs.Steps.{column_after}
+use Rattle.mk_words.specs.declared.Step.{Step}
+use Rattle.mk_words.specs.declared.Step.TheVariants.{Key}
+use Rattle.mk_model.specs.ColumnState.{Setting, ColumnState, new_column}
+use Rattle.mk_model.specs.Steps.{column_after}
 use Rattle.mk_history.specs.declared.RoundLog.{RoundLog}
-use Rattle.mk_column.specs.Logs.{reading_ended, replica_reset}
+use Rattle.mk_model.specs.Logs.{reading_ended, replica_reset}
 use Rattle.mk_history.specs.Histories.{History, clients_of, log_of}
+use Rattle.mk_history.specs.Shape.{columns_of}
 use Rattle.mk_history.specs.Wholes.{WholeState, first_state, after_round}
 use Rattle.mk_driver.specs.declared.Next.{Next}
 use Rattle.mk_driver.specs.declared.Next.TheVariants.{Step as StepNext, Key as KeyNext, Over}
@@ -62,10 +63,6 @@ lines_of retry round = record { submissions = map (submitted_by retry) round.txn
 -- those of a round of this script
 abbrev pub lines_of_round : ScriptParts → Round → RoundLines
 lines_of_round script round = lines_of script.retry round
-
--- one more is asked for
-abbrev pub with_line : Request → Caller → Caller
-with_line request caller = record caller { lines = caller.lines ++ request ∷ [] }
 
 -- the client's are asked for, behind what was asked for before
 abbrev pub asked_more : List Submission → Caller → Caller
@@ -211,6 +208,7 @@ EachRoundTurned script run before state (round ∷ rounds) =
 pub record IsDriven (script : ScriptParts) (run : History) : Type 0 where
   pub version : run.version ≡ script.version
   pub size : run.faults ≡ script.size
+  pub columns : run.columns ≡ columns_of (client_columns_of script)
   pub client_columns : run.client_columns ≡ client_columns_of script
   pub client_names : run.client_names ≡ map (λ line. line.name) script.clients
   pub key_names : run.key_names ≡ script.keys

@@ -5,6 +5,7 @@ use Rattle.mk_script.specs.declared.lines.TxnLine.{TxnLine}
 use Rattle.mk_script.specs.declared.lines.Round.{Round}
 use Rattle.mk_driver.specs.declared.Task.{Task}
 use Rattle.mk_driver.specs.declared.Caller.{Caller}
+use Rattle.mk_driver.specs.declared.Request.{Request}
 
 -- each number is at most those after it
 abbrev pub IsAscending : List ℕ → Type 0
@@ -32,3 +33,9 @@ HasFew line = length line.items ≤ 16
 -- so has each of a round
 abbrev pub HaveFew : Round → Type 0
 HaveFew round = Each HasFew round.txns
+
+-- clients whose lines are these
+abbrev pub with_lines : List (List Request) → List Caller → List Caller
+with_lines [] callers = callers
+with_lines (lines ∷ lists) [] = []
+with_lines (lines ∷ lists) (caller ∷ callers) = record caller { lines = lines } ∷ with_lines lists callers

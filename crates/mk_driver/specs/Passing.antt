@@ -1,11 +1,13 @@
 -- What tasks, agendas, client's turns and passes come to.
 use Rattle.std.specs.Prelude.{◌≡◌, ◌-◌, ℕ, Bool, true, List, [], ◌∷◌, length, Option, Some, None, IfNone}
 use Rattle.mk_faults.specs.Fates.{RuleLines}
-use Rattle.mk_column.specs.declared.Step.{Step}
-use Rattle.mk_column.specs.ColumnState.{Setting, ColumnState, numbers_from}
+use Rattle.mk_words.specs.declared.Step.{Step}
+use Rattle.mk_model.specs.ColumnState.{Setting, ColumnState, numbers_from}
 use Rattle.mk_driver.specs.declared.Task.{Task}
 use Rattle.mk_driver.specs.declared.DriverState.{DriverState}
-use Rattle.mk_driver.specs.declared.Next.TheVariants.{Step as StepNext}
+use Rattle.mk_words.specs.declared.KeyCall.{KeyCall}
+use Rattle.mk_driver.specs.declared.Next.{Next}
+use Rattle.mk_driver.specs.declared.Next.TheVariants.{Step as StepNext, Key as KeyNext, Over}
 use Rattle.mk_driver.specs.declared.Turned.{Turned}
 use Rattle.mk_driver.specs.declared.Turned.TheVariants.{Nothing as NothingDone, Silent as SilentlyDone, Stepped as TurnStepped}
 use Rattle.mk_driver.specs.declared.Passed.{Passed}
@@ -77,3 +79,14 @@ IsTurned place turn t old new =
 abbrev pub IsStepped : Turned → Type 0
 IsStepped (TurnStepped step) = Unit {0}
 IsStepped _ = ⊥
+
+-- the key call that is named
+abbrev pub named_call : Next → Option KeyCall
+named_call (KeyNext call) = Some call
+named_call (StepNext step) = None
+named_call Over = None
+
+-- what holds where nothing more is named
+abbrev pub IfOver : Next → Type 0 → Type 0
+IfOver Over holds = holds
+IfOver _ holds = Unit {0}

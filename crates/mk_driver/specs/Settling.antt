@@ -3,9 +3,9 @@ use Rattle.std.specs.Prelude.{ℕ, ◌-◌, Bool, true, false, not, ◌&&◌, Li
 use Rattle.std.specs.List.{list_any}
 use Rattle.mk_txn.specs.declared.TxnId.{TxnId}
 use Rattle.mk_txn.specs.declared.Outcome.{Outcome}
-use Rattle.mk_column.specs.declared.Step.TheVariants.{Validate, Rule, Again, Takeover, Pick}
-use Rattle.mk_column.specs.ColumnState.{Setting, ColumnState, AttemptState, ClientState, attempt_of, numbers_from}
-use Rattle.mk_column.specs.Conditions.{blocked, is_validate_of}
+use Rattle.mk_words.specs.declared.Step.TheVariants.{Validate, Rule, Again, Takeover, Pick}
+use Rattle.mk_model.specs.ColumnState.{Setting, ColumnState, AttemptState, ClientState, attempt_of, numbers_from}
+use Rattle.mk_model.specs.Conditions.{blocked, is_validate_of}
 use Rattle.mk_driver.specs.declared.Task.TheVariants.{DeliverSince, Settle, SettleTakeover}
 use Rattle.mk_driver.specs.declared.DriverState.{DriverState}
 use Rattle.mk_driver.specs.Agenda.{Worked}

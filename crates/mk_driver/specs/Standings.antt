@@ -1,13 +1,13 @@
 -- What a driver with its column stands for.
 use Rattle.std.specs.Prelude.{◌≡◌, ◌+◌, ℕ, List, ◌∷◌, map, drop, length}
-use Rattle.mk_merge.specs.declared.ReplicaView.{ReplicaView}
+use Rattle.mk_trim.specs.declared.ReplicaView.{ReplicaView}
 use Rattle.mk_script.specs.Scripts.{ScriptParts}
-use Rattle.mk_faults.specs.Fates.{rules_of}
-use Rattle.mk_column.specs.declared.Step.{Step}
+use Rattle.mk_faults.specs.Fates.{RuleLines, rules_of}
+use Rattle.mk_words.specs.declared.Step.{Step}
 use Rattle.mk_column.specs.ColumnByCode.{ColumnView}
-use Rattle.mk_column.specs.ColumnState.{new_column}
-use Rattle.mk_column.specs.Steps.{column_after}
-use Rattle.mk_column.specs.Logs.{reading_ended}
+use Rattle.mk_model.specs.ColumnState.{new_column}
+use Rattle.mk_model.specs.Steps.{column_after}
+use Rattle.mk_model.specs.Logs.{reading_ended}
 use Rattle.mk_history.specs.Histories.{clients_of}
 use Rattle.mk_driver.specs.declared.Next.{Next}
 use Rattle.mk_driver.specs.declared.Next.TheVariants.{Over}
@@ -35,6 +35,12 @@ pub record Stands (script : ScriptParts) (driver : DriverView) (column : ColumnV
   pub setting : column.setting ≡ setting_in script views
   pub state : column.state ≡ (let standing = standing_at script driver.column rounds views log in standing.column)
   pub named : choice (rules_of script) column.setting column.state driver.driver ≡ chosen script views (standing_at script driver.column rounds views log)
+
+-- whatever the one stands for with the column, the other does
+abbrev pub StandsAlike : RuleLines → DriverView → DriverView → ColumnView → Type 0
+StandsAlike rules one other column =
+    (script : ScriptParts) (rounds : List PastRound) (views : List ReplicaView) (log : List Step) →
+    rules ≡ rules_of script → Stands script one column rounds views log → Stands script other column rounds views log
 
 -- the first round began on a new driver of this column and on a new column
 pub record IsFirst (script : ScriptParts) (number : ℕ) (views : List ReplicaView) (driver : DriverView) (column : ColumnView) : Type 0 where

@@ -2,9 +2,9 @@
 use Rattle.std.specs.Prelude.{ℕ, ◌+◌, List, [], ◌∷◌, ◌++◌, flat_map, length, false, Option, Some, None, if◌then◌else◌}
 use Rattle.mk_txn.specs.declared.TxnId.{TxnId}
 use Rattle.mk_faults.specs.Fates.{RuleLines}
-use Rattle.mk_column.specs.declared.KeyCall.{KeyCall}
-use Rattle.mk_column.specs.ColumnState.{Setting, ColumnState, client_of, numbers_from, open_at}
-use Rattle.mk_column.specs.Conditions.{wanted}
+use Rattle.mk_words.specs.declared.KeyCall.{KeyCall}
+use Rattle.mk_model.specs.ColumnState.{Setting, ColumnState, client_of, numbers_from, open_at}
+use Rattle.mk_model.specs.Conditions.{wanted}
 use Rattle.mk_driver.specs.declared.Next.{Next}
 use Rattle.mk_driver.specs.declared.Next.TheVariants.{Step as StepNext, Key as KeyNext, Over}
 use Rattle.mk_driver.specs.declared.Task.{Task}

@@ -1,6 +1,6 @@
 //! The tasks with which the parts begin, the last one put first.
 ghost use Rattle.std.specs.Prelude.{◌≡◌, ◌<◌, ◌++◌, ◌∷◌, [], Some, flat_map, length, slice_get, OnOk};
-ghost use Rattle.mk_column.specs.ColumnState.{numbers_from, open_at};
+ghost use Rattle.mk_model.specs.ColumnState.{numbers_from, open_at};
 ghost use Rattle.mk_driver.specs.Keeping.{listed};
 ghost use Rattle.mk_driver.specs.declared.Task.TheVariants.{Takeover};
 ghost use Rattle.mk_driver.specs.Turns.{attempt_task as task_of, attempt_tasks, open_task};

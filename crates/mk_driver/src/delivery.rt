@@ -9,10 +9,11 @@ ghost use Rattle.mk_driver.specs.Passing.{ComesTo, IsDone, NamesAlike, after_fir
 
 use crate::views::{attempt_at, fate, learned, sent};
 use crate::{DriverState, Task};
-use mk_column::{Column, Step};
+use mk_column::Column;
 use mk_faults::Rules;
 use mk_script::Fate;
 use mk_txn::{NoMemory, Outcome, TxnId};
+use mk_words::Step;
 
 impl DriverState {
     /// A late message goes to the late list, and once no part is left, to the next round.

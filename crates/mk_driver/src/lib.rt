@@ -18,11 +18,11 @@ mod tasks;
 mod tests;
 mod views;
 
-use mk_column::{KeyCall, Step};
 use mk_proc::Item;
 use mk_quorum::Size;
 use mk_script::{Point, TakeoverLine};
 use mk_txn::TxnId;
+use mk_words::{KeyCall, Step};
 use std::collections::VecDeque;
 use std::marker::Model;
 
@@ -257,7 +257,7 @@ pub struct Submission {
 
 #[derive(Drop)]
 pub struct Submissions {
-    list: VecDeque<Submission>,
+    list: Vec<Submission>,
 }
 
 impl Model for Submissions {

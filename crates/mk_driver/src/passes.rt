@@ -1,6 +1,6 @@
 //! The clients are gone through, again and again, until none of them did anything.
 ghost use Rattle.std.specs.Prelude.{◌≡◌, ◌∷◌, ◌-◌, Bool, length, IfOk, OnErr, IsSome, slice_get};
-ghost use Rattle.mk_column.specs.ColumnState.{numbers_from};
+ghost use Rattle.mk_model.specs.ColumnState.{numbers_from};
 ghost use Rattle.mk_driver.specs.declared.DriverState.{DriverState};
 ghost use Rattle.mk_driver.specs.declared.Task.TheVariants.{Turns};
 ghost use Rattle.mk_driver.specs.Agenda.{Worked};
@@ -9,10 +9,11 @@ ghost use Rattle.mk_driver.specs.Turns.{Choice, or_next};
 ghost use Rattle.mk_driver.specs.Passing.{ComesTo, IsDone, NamesAlike, IsKeptBy, passed, after_first, without_first};
 
 use crate::{DriverState, Passed, Task, Turned};
-use mk_column::{Column, Step};
+use mk_column::Column;
 use mk_faults::Rules;
 use mk_quorum::Size;
 use mk_txn::NoMemory;
+use mk_words::Step;
 
 impl DriverState {
     /// The turns of the clients from this place on.

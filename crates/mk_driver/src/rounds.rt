@@ -1,17 +1,19 @@
 //! How a round begins.
-ghost use Rattle.std.specs.Prelude.{◌≡◌, ◌<◌, ◌++◌, ◌∷◌, [], length, map, filter, slice_index, MatchOption, IfOk, OnOk};
+ghost use Rattle.std.specs.Prelude.{◌≡◌, ◌<◌, ◌++◌, ◌∷◌, [], length, map, filter, slice_index, IfOk, OnOk, OnErr};
 ghost use Rattle.std.specs.List.{list_any};
-ghost use Rattle.mk_lists.specs.Changed.{change};
 ghost use Rattle.mk_driver.specs.declared.Task.TheVariants.{Take};
 ghost use Rattle.mk_driver.specs.declared.Part.TheVariants as parts;
 ghost use Rattle.mk_driver.specs.Agenda.{is_caller};
-ghost use Rattle.mk_driver.specs.Driven.{asked_more, is_for, begun_with, with_line};
+ghost use Rattle.mk_driver.specs.Driven.{asked_more, is_for, begun_with};
+ghost use Rattle.mk_driver.specs.Keeping.{with_lines};
 
 use crate::{
-    Agenda, Caller, Callers, DriverState, Numbers, Part, Parts, Request, RoundLines, Submission,
-    Submissions, TakeoverList, Task,
+    Agenda, Caller, Callers, DriverState, Items, Numbers, Part, Parts, Request, Requests,
+    RoundLines, Submissions, TakeoverList, Task,
 };
 use mk_txn::NoMemory;
+use std::alloc::Global;
+use std::collections::VecDeque;
 
 impl Numbers {
     fn len(&self) -> usize
@@ -36,16 +38,16 @@ impl Numbers {
 
 impl Parts {
     /// All parts are left.
-    fn fill(&mut self) -> Result<(), NoMemory>
-        ensures { OnOk result (self.new ≡ parts.Resume ∷ (parts.Turns ∷ (parts.Takeovers ∷ (parts.Late ∷ (parts.Settle ∷ []))))) }
+    fn all(alloc: Global) -> Result<Parts, NoMemory>
+        ensures { IfOk result (λ left. left ≡ parts.Resume ∷ (parts.Turns ∷ (parts.Takeovers ∷ (parts.Late ∷ (parts.Settle ∷ []))))) }
     {
-        self.stack.clear();
-        self.stack.push(Part::Settle)?;
-        self.stack.push(Part::Late)?;
-        self.stack.push(Part::Takeovers)?;
-        self.stack.push(Part::Turns)?;
-        self.stack.push(Part::Resume)?;
-        Ok(())
+        let mut stack = Vec::with_capacity(alloc, 5)?;
+        stack.push_reserved(Part::Settle);
+        stack.push_reserved(Part::Late);
+        stack.push_reserved(Part::Takeovers);
+        stack.push_reserved(Part::Turns);
+        stack.push_reserved(Part::Resume);
+        Ok(Parts { stack })
     }
 }
 
@@ -91,57 +93,112 @@ impl Callers {
         }
     }
 
-    /// The client of this number is asked for one more.
-    fn submit_one(&mut self, number: u32, request: Request) -> Result<(), NoMemory>
-        ensures { OnOk result (self.new ≡ change (is_caller number) (with_line request) self.old) }
+    /// The lines of each client, with those of the round behind them.
+    fn lines_with(&self, submissions: &Submissions) -> Result<VecDeque<Requests>, NoMemory>
+        ensures { IfOk result (λ lists. lists.items ≡ map (λ caller. (asked_more submissions.now caller).lines) self.now) }
     {
-        if let Some(place) = self.place_of(number) {
-            self.list[place].submit(request)?;
+        let mut lists = VecDeque::new(*self.list.allocator());
+        for caller in &self.list {
+            lists.push_back(caller.lines_with(submissions)?)?;
         }
-        Ok(())
+        Ok(lists)
     }
 
     /// Each client is asked for what is its own.
-    #[tactic(auto, using(crate::proofs::RoundLaws::one_more, crate::proofs::RoundLaws::none_left))]
-    fn submit(&mut self, submissions: Submissions) -> Result<(), NoMemory>
-        ensures { OnOk result (self.new ≡ map (asked_more submissions) self.old) }
+    fn submit(&mut self, submissions: &Submissions) -> Result<(), NoMemory>
+        ensures ok { OnOk result (self.new ≡ map (asked_more submissions.now) self.old) }
+        ensures err { OnErr result (self.new ≡ self.old) }
     {
-        let mut left = submissions;
-        while let Some(submission) = left.take_first() {
-            self.submit_one(submission.client, submission.request)?;
-        }
+        let lists = self.lines_with(submissions)?;
+        put_lines(&mut self.list, lists);
         Ok(())
+    }
+}
+
+// The lines of the clients become these.
+fn put_lines(callers: &mut Vec<Caller>, lists: VecDeque<Requests>)
+    ensures { callers.new.items ≡ with_lines lists.items callers.old.items }
+{
+    let mut left = lists;
+    for caller in callers.iter_mut() {
+        if let Some(lines) = left.pop_front() {
+            caller.lines = lines;
+        }
     }
 }
 
 impl Caller {
-    fn submit(&mut self, request: Request) -> Result<(), NoMemory>
-        ensures ok { OnOk result (self.new ≡ with_line request self.old) }
-        ensures number { self.new.number ≡ self.old.number }
+    // A copy of its lines, with those of the round behind them.
+    fn lines_with(&self, submissions: &Submissions) -> Result<Requests, NoMemory>
+        ensures { IfOk result (λ lines. lines ≡ (asked_more submissions.now self.now).lines) }
     {
-        self.lines.list.push_back(request)?;
+        let mut lines = self.lines.copy()?;
+        for submission in &submissions.list {
+            if submission.client == self.number {
+                lines.push(submission.request.copy()?)?;
+            }
+        }
+        Ok(lines)
+    }
+}
+
+impl Requests {
+    fn copy(&self) -> Result<Requests, NoMemory>
+        ensures { IfOk result (λ copy. copy ≡ self.now) }
+    {
+        let mut list = VecDeque::new(*self.list.allocator());
+        for place in 0..self.list.len() {
+            list.push_back(self.list[place].copy()?)?;
+        }
+        Ok(Requests { list })
+    }
+
+    fn push(&mut self, request: Request) -> Result<(), NoMemory>
+        ensures { OnOk result (self.new ≡ self.old ++ request ∷ []) }
+    {
+        self.list.push_back(request)?;
         Ok(())
     }
 }
 
-impl Submissions {
-    fn take_first(&mut self) -> Option<Submission>
-        ensures { MatchOption result ((self.old ≡ []) × (self.new ≡ [])) (λ submission. self.old ≡ submission ∷ self.new) }
+impl Request {
+    fn copy(&self) -> Result<Request, NoMemory>
+        ensures { IfOk result (λ copy. copy ≡ self.now) }
     {
-        self.list.pop_front()
+        Ok(Request {
+            clock: self.clock,
+            items: self.items.copy()?,
+            tries: self.tries,
+        })
+    }
+}
+
+impl Items {
+    fn copy(&self) -> Result<Items, NoMemory>
+        ensures { IfOk result (λ copy. copy ≡ self.now) }
+    {
+        Ok(Items {
+            list: Vec::from_slice(*self.list.allocator(), self.list.as_slice())?,
+        })
     }
 }
 
 impl DriverState {
-    /// A round with these lines begins.
-    pub(crate) fn begin_round(&mut self, lines: RoundLines) -> Result<(), NoMemory>
-        ensures { OnOk result (self.new ≡ begun_with lines self.old) }
+    /// A round with these lines begins. All memory is taken before anything changes.
+    pub(crate) fn begin_round(&mut self, lines: &RoundLines) -> Result<(), NoMemory>
+        ensures ok { OnOk result (self.new ≡ begun_with lines.now self.old) }
+        ensures err { OnErr result (self.new ≡ self.old) }
     {
-        self.agenda.clear();
-        self.agenda.put_takes(&self.held)?;
+        let alloc = self.agenda.allocator();
+        let mut agenda = Agenda::new(alloc);
+        agenda.put_takes(&self.held)?;
+        let parts = Parts::all(alloc)?;
+        let takeovers = lines.takeovers.of_clients(&self.callers)?;
+        self.callers.submit(&lines.submissions)?;
+        self.agenda = agenda;
+        self.parts = parts;
         self.held.clear();
-        self.parts.fill()?;
-        self.takeovers = lines.takeovers.of_clients(&self.callers)?;
-        self.callers.submit(lines.submissions)
+        self.takeovers = takeovers;
+        Ok(())
     }
 }

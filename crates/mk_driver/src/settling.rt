@@ -5,8 +5,9 @@ ghost use Rattle.mk_driver.specs.Passing.{ComesTo, IsDone, without_first};
 
 use crate::views::sent;
 use crate::{DriverState, Task};
-use mk_column::{Column, Step};
+use mk_column::Column;
 use mk_txn::{NoMemory, TxnId};
+use mk_words::Step;
 
 impl DriverState {
     /// Rule as long as it is enabled.

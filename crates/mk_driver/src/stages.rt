@@ -2,7 +2,7 @@
 ghost use Rattle.std.specs.Prelude.{◌≡◌, ◌<◌, ◌+◌, ◌^◌, ◌∷◌, Ok, Some, length, slice_get, IfOk, OnErr, IsSome, IsSomeAnd};
 ghost use Rattle.mk_quorum.specs.Slots.{passes};
 ghost use Rattle.mk_faults.specs.Fates.{stop_of};
-ghost use Rattle.mk_column.specs.ColumnState.{ClientState as OneClient, attempt_of, client_of};
+ghost use Rattle.mk_model.specs.ColumnState.{ClientState as OneClient, attempt_of, client_of};
 ghost use Rattle.mk_driver.specs.declared.DriverState.{DriverState};
 ghost use Rattle.mk_driver.specs.declared.Caller.{Caller as OneCaller};
 ghost use Rattle.mk_driver.specs.declared.Task.TheVariants.{Fetch};
@@ -13,13 +13,13 @@ ghost use Rattle.mk_driver.specs.Passing.{ComesTo, IsDone, IsKept, IsTurned, IsS
 use crate::views::{learned, reader_for, sent};
 use crate::{DriverState, Stage, Task, Turned};
 use mk_client::{computed_writes, next_wanted};
-use mk_column::{Column, Step, Writes};
-use mk_coord::Ruling;
+use mk_column::Column;
 use mk_faults::Rules;
 use mk_proc::Procs;
 use mk_quorum::Size;
 use mk_script::Point;
 use mk_txn::{NoMemory, TxnId};
+use mk_words::{Ruling, Step, Writes};
 
 impl DriverState {
     /// The turn of the client at this place.

@@ -51,9 +51,9 @@ impl Submissions {
         requires { Each HasFew lines.now }
         ensures { IfOk result (λ submissions. submissions ≡ map (submitted_by retry) lines.now) }
     {
-        let mut list = VecDeque::new(alloc);
+        let mut list = Vec::new(alloc);
         for line in lines {
-            list.push_back(Submission::of(alloc, retry, line)?)?;
+            list.push(Submission::of(alloc, retry, line)?)?;
         }
         Ok(Submissions { list })
     }
@@ -151,9 +151,7 @@ impl DriverState {
         ensures { IfOk result (λ driver. driver ≡ new_driver script.now column) }
     {
         Ok(DriverState {
-            agenda: Agenda {
-                stack: Vec::new(alloc),
-            },
+            agenda: Agenda::new(alloc),
             parts: Parts {
                 stack: Vec::new(alloc),
             },

@@ -1,16 +1,18 @@
 //! How the driver finds the next step: a loop over the parts that are left, and in it one over the tasks that are left.
-ghost use Rattle.std.specs.Prelude.{◌≡◌, ◌<◌, [], ◌∷◌, length, IfOk, OnOk, OnErr, IfNone, IsTrue, if◌then◌else◌};
+ghost use Rattle.std.specs.Prelude.{◌≡◌, ◌<◌, [], ◌∷◌, false, length, IfOk, OnOk, OnErr, IfNone, IsTrue, if◌then◌else◌};
 ghost use Rattle.mk_driver.specs.declared.Next.TheVariants.{Over};
 ghost use Rattle.mk_driver.specs.declared.DriverState.{DriverState};
 ghost use Rattle.mk_driver.specs.Turns.{Choice, choice, in_agenda, in_parts, tasks_of, with_agenda, work_on as worked_on};
-ghost use Rattle.mk_driver.specs.Passing.{ComesTo, IsDone, NamesAlike, ended, after_first, without_first};
+ghost use Rattle.mk_driver.specs.Passing.{ComesTo, IsDone, NamesAlike, IfOver, named_call, ended, after_first, without_first};
+ghost use Rattle.mk_model.specs.Conditions.{wanted};
 
 use crate::{DriverState, Next, Part, Task};
-use mk_column::{Column, Step};
+use mk_column::Column;
 use mk_faults::Rules;
 use mk_proc::Procs;
 use mk_quorum::Size;
 use mk_txn::NoMemory;
+use mk_words::Step;
 
 impl DriverState {
     /// What comes of the first task.
@@ -55,6 +57,7 @@ impl DriverState {
             (in_parts rules.now column.now.setting column.now.state self.new.parts) self.new.agenda self.new
             else record { next = Over; driver = self.new })) }
         ensures fewer { IfOk result (λ b. IsTrue b → length self.new.parts < length self.old.parts) }
+        ensures none { IfOk result (λ b. b ≡ false → (self.old.parts ≡ []) × (self.new ≡ self.old)) }
         ensures err { OnErr result (self.new ≡ self.old) }
     {
         let Some(part) = self.parts.first() else {
@@ -114,6 +117,7 @@ impl DriverState {
     }
 
     /// What comes next at the column.
+    #[tactic(auto, using(crate::proofs::StandingLaws::over_again))]
     pub(crate) fn next(
         &mut self,
         column: &Column,
@@ -124,6 +128,9 @@ impl DriverState {
         requires { column.now.setting.faults ≡ size }
         ensures named { IfOk result (λ next.
             choice rules.now column.now.setting column.now.state self.old ≡ record { next = next; driver = self.new }) }
+        ensures key { IfOk result (λ next. named_call next ≡ wanted column.now.state.work) }
+        ensures over { IfOk result (λ next. IfOver next (
+            choice rules.now column.now.setting column.now.state self.new ≡ record { next = Over; driver = self.new })) }
         ensures kept { OnErr result (
             choice rules.now column.now.setting column.now.state self.old
             ≡ choice rules.now column.now.setting column.now.state self.new) }

@@ -8,6 +8,15 @@ use mk_txn::NoMemory;
 use std::alloc::Global;
 
 impl Agenda {
+    /// No task is left.
+    pub(crate) fn new(alloc: Global) -> Agenda
+        ensures { result ≡ [] }
+    {
+        Agenda {
+            stack: Vec::new(alloc),
+        }
+    }
+
     pub(crate) fn allocator(&self) -> Global {
         *self.stack.allocator()
     }

@@ -1,9 +1,9 @@
 //! What the driver sees of its column.
 ghost use Rattle.std.specs.Prelude.{◌≡◌, ◌+◌, ◌%◌, length, option_map, IsSome};
-ghost use Rattle.mk_msg.specs.Links.{message};
+ghost use Rattle.mk_words.specs.Links.{message};
 ghost use Rattle.mk_quorum.specs.Sizes.{members};
 ghost use Rattle.mk_faults.specs.Fates.{fate_at};
-ghost use Rattle.mk_column.specs.Conditions.{heard_by};
+ghost use Rattle.mk_model.specs.Conditions.{heard_by};
 ghost use Rattle.mk_driver.specs.Delivery.{own_learned};
 ghost use Rattle.mk_driver.specs.Stages.{reader_for as first_reader};
 

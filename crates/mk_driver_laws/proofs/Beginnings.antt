@@ -7,10 +7,10 @@ use Rattle.std.proofs.lemmas.Nat.{mod_below, div-add-mod', mod-mul-add}
 use Rattle.mk_lists.specs.Among.{Each-weaker}
 use Rattle.mk_quorum.specs.Sizes.{members}
 use Rattle.mk_quorum.specs.Slots.{passes}
-use Rattle.mk_merge.specs.declared.ReplicaView.{ReplicaView}
-use Rattle.mk_column.specs.declared.Step.TheVariants.{Begin, Unread}
-use Rattle.mk_column.specs.ColumnState.{Setting, ColumnState, AttemptState, ClientState, client_of, numbers_from}
-use Rattle.mk_column.specs.Conditions.{blocked, conditions, is_idle, heard_by, may_begin, serves_from, has_seq_left}
+use Rattle.mk_trim.specs.declared.ReplicaView.{ReplicaView}
+use Rattle.mk_words.specs.declared.Step.TheVariants.{Begin, Unread}
+use Rattle.mk_model.specs.ColumnState.{Setting, ColumnState, AttemptState, ClientState, client_of, numbers_from}
+use Rattle.mk_model.specs.Conditions.{blocked, conditions, is_idle, heard_by, may_begin, serves_from, has_seq_left}
 use Rattle.mk_driver.specs.Stages.{reader_for, from_home}
 use Rattle.mk_driver_laws.proofs.Lookups.{find-passes, any-none, and_both, not_false}
 use Rattle.mk_driver_laws.proofs.Conditions.{none_fails}

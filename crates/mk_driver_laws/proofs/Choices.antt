@@ -5,11 +5,11 @@ use Rattle.mk_lists.specs.Among.{Each, Each-append}
 use Rattle.mk_txn.specs.declared.TxnId.{TxnId}
 use Rattle.mk_quorum.specs.Slots.{passes}
 use Rattle.mk_faults.specs.Fates.{RuleLines, stop_of}
-use Rattle.mk_column.specs.declared.KeyCall.{KeyCall}
-use Rattle.mk_column.specs.declared.Step.TheVariants.{Rule, Takeover as TakeoverStep, Pick}
-use Rattle.mk_column.specs.ColumnState.{Setting, ColumnState, client_of, attempt_of, numbers_from, open_at}
-use Rattle.mk_column.specs.Conditions.{blocked, is_idle, wanted}
-use Rattle.mk_column.specs.Steps.{column_after}
+use Rattle.mk_words.specs.declared.KeyCall.{KeyCall}
+use Rattle.mk_words.specs.declared.Step.TheVariants.{Rule, Takeover as TakeoverStep, Pick}
+use Rattle.mk_model.specs.ColumnState.{Setting, ColumnState, client_of, attempt_of, numbers_from, open_at}
+use Rattle.mk_model.specs.Conditions.{blocked, is_idle, wanted}
+use Rattle.mk_model.specs.Steps.{column_after}
 use Rattle.mk_driver.specs.declared.DriverState.{DriverState}
 use Rattle.mk_driver.specs.declared.Caller.{Caller}
 use Rattle.mk_driver.specs.declared.Part.{Part}

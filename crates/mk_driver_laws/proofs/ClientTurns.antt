@@ -8,17 +8,17 @@ use Rattle.mk_lists.specs.Among.{Each}
 use Rattle.mk_txn.specs.declared.TxnId.{TxnId}
 use Rattle.mk_txn.specs.declared.Outcome.{Outcome}
 use Rattle.mk_txn.specs.Transactions.{same_id}
-use Rattle.mk_coord.specs.declared.Ruling.{Ruling}
-use Rattle.mk_coord.specs.declared.Ruling.TheVariants.{Fast, Propose, Learned, Short, Unaccepted}
-use Rattle.mk_coord.specs.Rulings.{CoordState, ruling}
+use Rattle.mk_words.specs.declared.Ruling.{Ruling}
+use Rattle.mk_words.specs.declared.Ruling.TheVariants.{Fast, Propose, Learned, Short, Unaccepted}
+use Rattle.mk_words.specs.Rulings.{CoordState, ruling}
 use Rattle.mk_script.specs.declared.lines.Point.{Point}
 use Rattle.mk_script.specs.declared.lines.Point.TheVariants.{Read as AfterRead, Votes as AfterVotes, Accepts as AfterAccepts}
 use Rattle.mk_faults.specs.Fates.{RuleLines}
-use Rattle.mk_column.specs.declared.Step.{Step}
-use Rattle.mk_column.specs.declared.Step.TheVariants.{Begin, Unread, Validate, Rule}
-use Rattle.mk_column.specs.ColumnState.{Setting, ColumnState, AttemptState, ClientState, attempt_of, client_of}
-use Rattle.mk_column.specs.Conditions.{blocked, conditions, is_idle, is_stamped, on_attempt, acts_on}
-use Rattle.mk_column.specs.Steps.{column_after}
+use Rattle.mk_words.specs.declared.Step.{Step}
+use Rattle.mk_words.specs.declared.Step.TheVariants.{Begin, Unread, Validate, Rule}
+use Rattle.mk_model.specs.ColumnState.{Setting, ColumnState, AttemptState, ClientState, attempt_of, client_of}
+use Rattle.mk_model.specs.Conditions.{blocked, conditions, is_idle, is_stamped, on_attempt, acts_on}
+use Rattle.mk_model.specs.Steps.{column_after}
 use Rattle.mk_driver.specs.declared.DriverState.{DriverState}
 use Rattle.mk_driver.specs.declared.Task.{Task}
 use Rattle.mk_driver.specs.declared.Task.TheVariants.{DeliverSince, Notice, Fetch, Reach, Turns}

@@ -5,15 +5,15 @@ use Rattle.std.specs.List.{list_any}
 use Rattle.mk_lists.specs.Among.{Each, Each-append, Each-weaker}
 use Rattle.mk_txn.specs.declared.TxnId.{TxnId}
 use Rattle.mk_txn.specs.Transactions.{Transaction, same_id}
-use Rattle.mk_msg.specs.declared.Msg.{Msg}
+use Rattle.mk_words.specs.declared.Msg.{Msg}
 use Rattle.mk_quorum.specs.Slots.{passes}
-use Rattle.mk_valid.specs.Validations.{next_act, validation_of}
-use Rattle.mk_coord.specs.Rulings.{new_coord}
-use Rattle.mk_column.specs.declared.Step.{Step}
-use Rattle.mk_column.specs.declared.Step.TheVariants.{Stop, Validate}
-use Rattle.mk_column.specs.ColumnState.{ColumnState, AttemptState, TakeoverOf, ClientState, Work, attempt_of, client_of, takeover_of}
-use Rattle.mk_column.specs.ColumnState.Work.{Idle, Fetching, Validating, Finishing}
-use Rattle.mk_column.specs.Conditions.{is_validate_of, is_stamped, on_attempt}
+use Rattle.mk_words.specs.Validations.{next_act, validation_of}
+use Rattle.mk_words.specs.Rulings.{new_coord}
+use Rattle.mk_words.specs.declared.Step.{Step}
+use Rattle.mk_words.specs.declared.Step.TheVariants.{Stop, Validate}
+use Rattle.mk_model.specs.ColumnState.{ColumnState, AttemptState, TakeoverOf, ClientState, Work, attempt_of, client_of, takeover_of}
+use Rattle.mk_model.specs.ColumnState.Work.{Idle, Fetching, Validating, Finishing}
+use Rattle.mk_model.specs.Conditions.{is_validate_of, is_stamped, on_attempt}
 use Rattle.mk_driver_laws.proofs.Lookups.{same_id-tells, passes-some, passes-at, some_same, any-append, any-left, any-neither, any-none}
 
 -- a Validate of the attempt was sent

@@ -6,18 +6,18 @@ use Rattle.mk_lists.specs.Changed.{change}
 use Rattle.mk_txn.specs.declared.TxnId.{TxnId}
 use Rattle.mk_txn.specs.declared.Outcome.{Outcome}
 use Rattle.mk_txn.specs.Transactions.{Transaction, same_id}
-use Rattle.mk_msg.specs.declared.Msg.{Msg}
-use Rattle.mk_msg.specs.declared.Body.TheVariants.{Accept, Decide, Ask}
-use Rattle.mk_coord.specs.declared.Ruling.{Ruling}
-use Rattle.mk_coord.specs.declared.Ruling.TheVariants.{Fast, Propose, Learned, Short, Unaccepted}
-use Rattle.mk_coord.specs.Rulings.{CoordState, new_coord, ruling}
-use Rattle.mk_takeover.specs.declared.Pick.{Pick}
-use Rattle.mk_takeover.specs.declared.Pick.TheVariants.{Known, Learned as PickLearned, Propose as PickPropose, Short as PickShort, Unaccepted as PickUnaccepted, Unclear}
-use Rattle.mk_column.specs.declared.Step.{Step}
-use Rattle.mk_column.specs.declared.Step.TheVariants.{Rule, Again, Takeover, Pick as PickStep}
-use Rattle.mk_column.specs.ColumnState.{ColumnState, AttemptState, TakeoverOf, ClientState, Learning, attempt_of, client_of, takeover_of, is_attempt, is_client, is_takeover, change_client, send, to_all}
-use Rattle.mk_column.specs.Conditions.{is_stamped, on_attempt, acts_on}
-use Rattle.mk_column.specs.Steps.{on_some, begun, next_id, with_attempt, ruled, taught, proposing, taken_over, picked, closing, takeover_proposing}
+use Rattle.mk_words.specs.declared.Msg.{Msg}
+use Rattle.mk_words.specs.declared.Body.TheVariants.{Accept, Decide, Ask}
+use Rattle.mk_words.specs.declared.Ruling.{Ruling}
+use Rattle.mk_words.specs.declared.Ruling.TheVariants.{Fast, Propose, Learned, Short, Unaccepted}
+use Rattle.mk_words.specs.Rulings.{CoordState, new_coord, ruling}
+use Rattle.mk_words.specs.declared.Pick.{Pick}
+use Rattle.mk_words.specs.declared.Pick.TheVariants.{Known, Learned as PickLearned, Propose as PickPropose, Short as PickShort, Unaccepted as PickUnaccepted, Unclear}
+use Rattle.mk_words.specs.declared.Step.{Step}
+use Rattle.mk_words.specs.declared.Step.TheVariants.{Rule, Again, Takeover, Pick as PickStep}
+use Rattle.mk_model.specs.ColumnState.{ColumnState, AttemptState, TakeoverOf, ClientState, Learning, attempt_of, client_of, takeover_of, is_attempt, is_client, is_takeover, change_client, send, to_all}
+use Rattle.mk_model.specs.Conditions.{is_stamped, on_attempt, acts_on}
+use Rattle.mk_model.specs.Steps.{on_some, begun, next_id, with_attempt, ruled, taught, proposing, taken_over, picked, closing, takeover_proposing}
 use Rattle.mk_driver_laws.proofs.Lookups.{same_id-tells, some_same, find-pushed, find-push, find-push_other, find-change, changed_from, and_left}
 use Rattle.mk_driver_laws.proofs.ColumnMoves.{WasSent, stops, validates, ColumnFits, AttemptKept, AttemptMove, MessageFits, Moves}
 use Rattle.mk_driver_laws.proofs.ColumnMoves.AttemptMove.{Stays, Begins}

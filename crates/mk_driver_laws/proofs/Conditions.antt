@@ -1,6 +1,6 @@
 -- What it means that a step is enabled: each of its conditions holds.
 use Rattle.std.proofs.Common.{◌≡◌, ℕ, ◌+◌, Bool, true, false, refl, List, [], ◌∷◌, None}
-use Rattle.mk_column.specs.Conditions.{first_failing}
+use Rattle.mk_model.specs.Conditions.{first_failing}
 
 -- each of them holds
 abbrev pub AllHold : List Bool → Type 0

@@ -7,8 +7,8 @@ use Rattle.mk_lists.specs.Changed.{change, Each-change}
 use Rattle.mk_txn.specs.declared.TxnId.{TxnId}
 use Rattle.mk_script.specs.declared.lines.Point.{Point}
 use Rattle.mk_script.specs.declared.lines.Point.TheVariants.{Read as AfterRead, Votes as AfterVotes, Accepts as AfterAccepts}
-use Rattle.mk_column.specs.declared.Step.{Step}
-use Rattle.mk_column.specs.ColumnState.{ColumnState}
+use Rattle.mk_words.specs.declared.Step.{Step}
+use Rattle.mk_model.specs.ColumnState.{ColumnState}
 use Rattle.mk_driver.specs.declared.Task.{Task}
 use Rattle.mk_driver.specs.declared.Task.TheVariants.{Deliver, DeliverSince, Take, Notice, Fetch, Reach, Resume, Turns, Takeover, Late, Settle, SettleTakeover}
 use Rattle.mk_driver.specs.declared.DriverState.{DriverState}

@@ -14,11 +14,11 @@ use Rattle.mk_quorum.specs.Slots.{passes}
 use Rattle.mk_script.specs.declared.lines.Point.TheVariants.{Read as AfterRead}
 use Rattle.mk_client.specs.Computed.{writes_of}
 use Rattle.mk_client.specs.Wanted.{next_wanted, wanted_keys}
-use Rattle.mk_column.specs.declared.Step.{Step}
-use Rattle.mk_column.specs.declared.Step.TheVariants.{Read, Stamp}
-use Rattle.mk_column.specs.ColumnState.{Setting, ColumnState, AttemptState, ClientState, attempt_of, client_of}
-use Rattle.mk_column.specs.Conditions.{blocked, conditions, first_failing, is_idle, may_read, on_attempt, stamp_exists, writes_fit}
-use Rattle.mk_column.specs.Steps.{column_after}
+use Rattle.mk_words.specs.declared.Step.{Step}
+use Rattle.mk_words.specs.declared.Step.TheVariants.{Read, Stamp}
+use Rattle.mk_model.specs.ColumnState.{Setting, ColumnState, AttemptState, ClientState, attempt_of, client_of}
+use Rattle.mk_model.specs.Conditions.{blocked, conditions, first_failing, is_idle, may_read, on_attempt, stamp_exists, writes_fit}
+use Rattle.mk_model.specs.Steps.{column_after}
 use Rattle.mk_driver.specs.declared.DriverState.{DriverState}
 use Rattle.mk_driver.specs.declared.Request.{Request}
 use Rattle.mk_driver.specs.declared.Task.{Task}

@@ -9,18 +9,18 @@ use Rattle.mk_txn.specs.Transactions.{Transaction}
 use Rattle.mk_txn.specs.declared.Stamp.{Stamp as StampType}
 use Rattle.mk_txn.specs.declared.WriteItem.{WriteItem}
 use Rattle.mk_txn.specs.Stamps.{next_stamp_of}
-use Rattle.mk_msg.specs.declared.Msg.{Msg}
+use Rattle.mk_words.specs.declared.Msg.{Msg}
 use Rattle.mk_quorum.specs.Slots.{passes}
-use Rattle.mk_cell.specs.declared.Answer.{Answer}
-use Rattle.mk_valid.specs.Checks.{KeyAct}
-use Rattle.mk_valid.specs.Validations.{ValidationState, next_act, after_answer}
-use Rattle.mk_column.specs.declared.KeyCall.{KeyCall}
-use Rattle.mk_column.specs.declared.Step.{Step}
-use Rattle.mk_column.specs.declared.Step.TheVariants.{Begin, Stamp, Read, Key}
-use Rattle.mk_column.specs.ColumnState.{Setting, ColumnState, AttemptState, ClientState, Work, attempt_of, client_of, is_attempt, is_client}
-use Rattle.mk_column.specs.ColumnState.Work.{Idle, Fetching, Validating, Finishing}
-use Rattle.mk_column.specs.Conditions.{blocked, conditions, is_idle, wanted, is_validate_of, is_stamped, on_attempt, stamp_exists}
-use Rattle.mk_column.specs.Steps.{answered, validated, with_read, on_some, beginning, next_id, new_attempt, epoch_of, stamping, stamped, with_txn, column_after}
+use Rattle.mk_words.specs.declared.Answer.{Answer}
+use Rattle.mk_words.specs.Checks.{KeyAct}
+use Rattle.mk_words.specs.Validations.{ValidationState, next_act, after_answer}
+use Rattle.mk_words.specs.declared.KeyCall.{KeyCall}
+use Rattle.mk_words.specs.declared.Step.{Step}
+use Rattle.mk_words.specs.declared.Step.TheVariants.{Begin, Stamp, Read, Key}
+use Rattle.mk_model.specs.ColumnState.{Setting, ColumnState, AttemptState, ClientState, Work, attempt_of, client_of, is_attempt, is_client}
+use Rattle.mk_model.specs.ColumnState.Work.{Idle, Fetching, Validating, Finishing}
+use Rattle.mk_model.specs.Conditions.{blocked, conditions, is_idle, wanted, is_validate_of, is_stamped, on_attempt, stamp_exists}
+use Rattle.mk_model.specs.Steps.{answered, validated, with_read, on_some, beginning, next_id, new_attempt, epoch_of, stamping, stamped, with_txn, column_after}
 use Rattle.mk_driver_laws.proofs.Lookups.{same_id-itself, there, passes-some, passes-at, find-passes, find-pushed, find-change, eqb-tells, and_left, and_right, and_both}
 use Rattle.mk_driver_laws.proofs.Conditions.{all_hold}
 use Rattle.mk_driver_laws.proofs.ColumnMoves.{stops, ColumnFits, WorkFits, AttemptMove, Moves}
@@ -59,7 +59,7 @@ idle_by link Idle h e = refl
 idle_by link (Fetching id replica key) h e = absurd (cc e)
 idle_by link (Validating txn replica epoch state) h e = by _ h.1 e
   where
-    by : (o : Option Rattle.mk_valid.specs.Checks.KeyAct) → is_some o ≡ true → option_map (Rattle.mk_column.specs.Conditions.call_at replica) o ≡ None → is_idle (Validating txn replica epoch state) ≡ true
+    by : (o : Option Rattle.mk_words.specs.Checks.KeyAct) → is_some o ≡ true → option_map (Rattle.mk_model.specs.Conditions.call_at replica) o ≡ None → is_idle (Validating txn replica epoch state) ≡ true
     by None s z = absurd (cc s)
     by (Some act) s z = absurd (cc z)
 idle_by link (Finishing replica []) h e = absurd h

@@ -26,3 +26,7 @@ pub mod PlaceChoices
 pub mod Choices
 pub mod Standing
 pub mod PlaceStandings
+mod GoingOn
+mod NamedCalls
+mod KeyCalls
+mod Bounds

@@ -1,8 +1,8 @@
 -- What a choice means: the step that it names is enabled, and the driver then fits the column after it.
 use Rattle.std.proofs.Common.{◌≡◌, [], None}
-use Rattle.mk_column.specs.ColumnState.{Setting, ColumnState}
-use Rattle.mk_column.specs.Conditions.{blocked}
-use Rattle.mk_column.specs.Steps.{column_after}
+use Rattle.mk_model.specs.ColumnState.{Setting, ColumnState}
+use Rattle.mk_model.specs.Conditions.{blocked}
+use Rattle.mk_model.specs.Steps.{column_after}
 use Rattle.mk_driver.specs.declared.DriverState.{DriverState}
 use Rattle.mk_driver.specs.declared.Next.{Next}
 use Rattle.mk_driver.specs.declared.Next.TheVariants.{Step as StepNext, Key as KeyNext, Over}

@@ -8,26 +8,26 @@ use Rattle.mk_txn.specs.declared.Stamp.{Stamp as StampType}
 use Rattle.mk_txn.specs.declared.WriteItem.{WriteItem}
 use Rattle.mk_txn.specs.Stamps.{next_stamp_of}
 use Rattle.mk_txn.specs.Transactions.{Transaction}
-use Rattle.mk_cell.specs.declared.Answer.{Answer}
-use Rattle.mk_msg.specs.declared.Msg.{Msg}
-use Rattle.mk_msg.specs.declared.Body.{Body}
-use Rattle.mk_msg.specs.declared.Body.TheVariants.{Validate as ValidateBody, Voted, Accept, Accepted as AcceptedBody, Decide, Ask, Told as ToldBody, Moved as MovedBody}
-use Rattle.mk_msg.specs.Links.{message, goes_to_replica}
-use Rattle.mk_valid.specs.Checks.{KeyAct}
-use Rattle.mk_valid.specs.Validations.{next_act, after_answer, ValidationState}
-use Rattle.mk_coord.specs.declared.Ruling.{Ruling}
-use Rattle.mk_coord.specs.declared.Ruling.TheVariants.{Fast, Propose, Learned, Short, Unaccepted}
-use Rattle.mk_coord.specs.Rulings.{ruling}
-use Rattle.mk_takeover.specs.declared.Pick.{Pick}
-use Rattle.mk_takeover.specs.declared.Pick.TheVariants.{Known, Learned as PickLearned, Propose as PickPropose, Short as PickShort, Unaccepted as PickUnaccepted, Unclear}
-use Rattle.mk_takeover.specs.Picks.{pick}
-use Rattle.mk_column.specs.declared.Step.{Step}
-use Rattle.mk_column.specs.declared.Step.TheVariants.{Begin, Unread, Read, Stamp, Validate, Take, Key, Rule, Again, Takeover, Pick as PickStep, Stop}
-use Rattle.mk_column.specs.ColumnState.{Setting, ColumnState, AttemptState, ClientState, Work, attempt_of, client_of, takeover_of, is_client, send, to_all, mark_sent}
-use Rattle.mk_column.specs.ColumnState.Work.{Idle, Fetching, Validating, Finishing}
-use Rattle.mk_column.specs.Answers.{heard_of, listens, is_led}
-use Rattle.mk_column.specs.Learnings.{txn_of}
-use Rattle.mk_column.specs.Steps.{on_some, begun, beginning, epoch_of, left_unread, stamping, stamped, with_last_time, ruled, sent_again, taken_over, picking, picked, replica_takes, taken, answered, validated, column_after}
+use Rattle.mk_words.specs.declared.Answer.{Answer}
+use Rattle.mk_words.specs.declared.Msg.{Msg}
+use Rattle.mk_words.specs.declared.Body.{Body}
+use Rattle.mk_words.specs.declared.Body.TheVariants.{Validate as ValidateBody, Voted, Accept, Accepted as AcceptedBody, Decide, Ask, Told as ToldBody, Moved as MovedBody}
+use Rattle.mk_words.specs.Links.{message, goes_to_replica}
+use Rattle.mk_words.specs.Checks.{KeyAct}
+use Rattle.mk_words.specs.Validations.{next_act, after_answer, ValidationState}
+use Rattle.mk_words.specs.declared.Ruling.{Ruling}
+use Rattle.mk_words.specs.declared.Ruling.TheVariants.{Fast, Propose, Learned, Short, Unaccepted}
+use Rattle.mk_words.specs.Rulings.{ruling}
+use Rattle.mk_words.specs.declared.Pick.{Pick}
+use Rattle.mk_words.specs.declared.Pick.TheVariants.{Known, Learned as PickLearned, Propose as PickPropose, Short as PickShort, Unaccepted as PickUnaccepted, Unclear}
+use Rattle.mk_words.specs.Picks.{pick}
+use Rattle.mk_words.specs.declared.Step.{Step}
+use Rattle.mk_words.specs.declared.Step.TheVariants.{Begin, Unread, Read, Stamp, Validate, Take, Key, Rule, Again, Takeover, Pick as PickStep, Stop}
+use Rattle.mk_model.specs.ColumnState.{Setting, ColumnState, AttemptState, ClientState, Work, attempt_of, client_of, takeover_of, is_client, send, to_all, mark_sent}
+use Rattle.mk_model.specs.ColumnState.Work.{Idle, Fetching, Validating, Finishing}
+use Rattle.mk_model.specs.Answers.{heard_of, listens, is_led}
+use Rattle.mk_model.specs.Learnings.{txn_of}
+use Rattle.mk_model.specs.Steps.{on_some, begun, beginning, epoch_of, left_unread, stamping, stamped, with_last_time, ruled, sent_again, taken_over, picking, picked, replica_takes, taken, answered, validated, column_after}
 use Rattle.mk_driver_laws.proofs.Lookups.{eqb-tells, find-passes}
 
 -- each client's number and next place have P

@@ -5,8 +5,8 @@ use Rattle.mk_txn.specs.declared.TxnId.{TxnId}
 use Rattle.mk_txn.specs.declared.ReadItem.{ReadItem}
 use Rattle.mk_txn.specs.declared.Outcome.{Outcome}
 use Rattle.mk_txn.specs.declared.Outcome.TheVariants.{Commit, Abort}
-use Rattle.mk_msg.specs.declared.Msg.{Msg}
-use Rattle.mk_msg.specs.Links.{message}
+use Rattle.mk_words.specs.declared.Msg.{Msg}
+use Rattle.mk_words.specs.Links.{message}
 use Rattle.mk_quorum.specs.Slots.{passes}
 use Rattle.mk_client.specs.Computed.{writes_of}
 use Rattle.mk_client.specs.Wanted.{next_wanted}
@@ -14,12 +14,12 @@ use Rattle.mk_script.specs.declared.lines.Point.{Point}
 use Rattle.mk_script.specs.declared.lines.Fate.{Fate}
 use Rattle.mk_script.specs.declared.lines.Fate.TheVariants.{Deliver as DeliverFate, Lose, Twice, Late as LateFate, NextRound}
 use Rattle.mk_faults.specs.Fates.{RuleLines, fate_at, stop_of}
-use Rattle.mk_column.specs.declared.KeyCall.{KeyCall}
-use Rattle.mk_column.specs.declared.Step.{Step}
-use Rattle.mk_column.specs.declared.Step.TheVariants.{Read, Stamp, Validate, Take as TakeStep, Rule, Again, Takeover as TakeoverStep, Pick, Stop}
-use Rattle.mk_column.specs.ColumnState.{Setting, ColumnState, AttemptState, attempt_of, numbers_from}
-use Rattle.mk_column.specs.Conditions.{blocked, wanted}
-use Rattle.mk_column.specs.Steps.{column_after}
+use Rattle.mk_words.specs.declared.KeyCall.{KeyCall}
+use Rattle.mk_words.specs.declared.Step.{Step}
+use Rattle.mk_words.specs.declared.Step.TheVariants.{Read, Stamp, Validate, Take as TakeStep, Rule, Again, Takeover as TakeoverStep, Pick, Stop}
+use Rattle.mk_model.specs.ColumnState.{Setting, ColumnState, AttemptState, attempt_of, numbers_from}
+use Rattle.mk_model.specs.Conditions.{blocked, wanted}
+use Rattle.mk_model.specs.Steps.{column_after}
 use Rattle.mk_driver.specs.declared.DriverState.{DriverState}
 use Rattle.mk_driver.specs.declared.Part.{Part}
 use Rattle.mk_driver.specs.declared.Request.{Request}

@@ -4,20 +4,20 @@ use Rattle.std.specs.Prelude.{◌==◌, sum_by, slice_index_or}
 use Rattle.std.proofs.lemmas.Nat.{mul-le}
 use Rattle.std.proofs.lemmas.List.Sums.{sum_by-cons}
 use Rattle.mk_lists.specs.Among.{Each}
-use Rattle.mk_merge.specs.declared.ReplicaView.{ReplicaView}
-use Rattle.mk_global.specs.declared.GlobalEntry.{GlobalEntry}
-use Rattle.mk_global.specs.declared.GlobalLine.{GlobalLine}
-use Rattle.mk_global.specs.declared.GlobalLine.TheVariants.{Wipe, Ask, Promise, Merge, Adopt, Enter}
-use Rattle.mk_epoch.specs.GlobalAnswers.{is_accepted}
+use Rattle.mk_trim.specs.declared.ReplicaView.{ReplicaView}
+use Rattle.mk_words.specs.declared.GlobalEntry.{GlobalEntry}
+use Rattle.mk_words.specs.declared.GlobalLine.{GlobalLine}
+use Rattle.mk_words.specs.declared.GlobalLine.TheVariants.{Wipe, Ask, Promise, Merge, Adopt, Enter}
+use Rattle.mk_model.specs.GlobalAnswers.{is_accepted}
 use Rattle.mk_script.specs.Scripts.{ScriptParts, txn_count}
 use Rattle.mk_script.specs.Whole.{IsWhole}
 use Rattle.mk_script.specs.declared.lines.ClientLine.{ClientLine}
 use Rattle.mk_script.specs.declared.lines.Round.{Round}
 use Rattle.mk_faults.specs.Fates.{rules_of}
-use Rattle.mk_column.specs.declared.Step.{Step}
-use Rattle.mk_column.specs.declared.Step.TheVariants.{Key}
-use Rattle.mk_column.specs.ColumnState.{Setting, ColumnState, ClientState, new_client}
-use Rattle.mk_column.specs.Steps.{column_after}
+use Rattle.mk_words.specs.declared.Step.{Step}
+use Rattle.mk_words.specs.declared.Step.TheVariants.{Key}
+use Rattle.mk_model.specs.ColumnState.{Setting, ColumnState, ClientState, new_client}
+use Rattle.mk_model.specs.Steps.{column_after}
 use Rattle.mk_history.specs.Histories.{log_of, clients_of}
 use Rattle.mk_driver.specs.declared.DriverState.{DriverState}
 use Rattle.mk_driver.specs.declared.Caller.{Caller}

@@ -4,10 +4,10 @@ use Rattle.std.specs.Prelude.{find, slice_get, nat_le, ◌==◌}
 use Rattle.std.proofs.lemmas.Bool.Decides.{nat_tests}
 use Rattle.mk_lists.specs.Among.{Each, Each-weaker}
 use Rattle.mk_lists.specs.Changed.{change, Each-change}
-use Rattle.mk_column.specs.declared.Step.{Step}
-use Rattle.mk_column.specs.ColumnState.{Setting, ColumnState, ClientState, client_of, is_client}
-use Rattle.mk_column.specs.Conditions.{has_seq_left}
-use Rattle.mk_column.specs.Steps.{column_after}
+use Rattle.mk_words.specs.declared.Step.{Step}
+use Rattle.mk_model.specs.ColumnState.{Setting, ColumnState, ClientState, client_of, is_client}
+use Rattle.mk_model.specs.Conditions.{has_seq_left}
+use Rattle.mk_model.specs.Steps.{column_after}
 use Rattle.mk_driver.specs.declared.Caller.{Caller}
 use Rattle.mk_driver.specs.Keeping.{IsRising, numbers_of}
 use Rattle.mk_driver.specs.Agenda.{is_caller}

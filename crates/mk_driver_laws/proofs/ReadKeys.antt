@@ -6,19 +6,19 @@ use Rattle.mk_lists.specs.Changed.{change}
 use Rattle.mk_txn.specs.declared.TxnId.{TxnId}
 use Rattle.mk_txn.specs.declared.ReadItem.{ReadItem}
 use Rattle.mk_txn.specs.Transactions.{read_keys}
-use Rattle.mk_cell.specs.declared.Act.{Act}
-use Rattle.mk_cell.specs.declared.Act.TheVariants.{Get, CheckRead, CheckWrite, CommitRead, CommitWrite, ReleaseRead, ReleaseWrite}
-use Rattle.mk_cell.specs.declared.Answer.{Answer}
-use Rattle.mk_cell.specs.declared.Answer.TheVariants.{Version, Okay, Refused, Done}
-use Rattle.mk_cell.specs.Acts.{answer_fits, same_act}
+use Rattle.mk_words.specs.declared.Act.{Act}
+use Rattle.mk_words.specs.declared.Act.TheVariants.{Get, CheckRead, CheckWrite, CommitRead, CommitWrite, ReleaseRead, ReleaseWrite}
+use Rattle.mk_words.specs.declared.Answer.{Answer}
+use Rattle.mk_words.specs.declared.Answer.TheVariants.{Version, Okay, Refused, Done}
+use Rattle.mk_words.specs.Acts.{answer_fits, same_act}
 use Rattle.mk_quorum.specs.Slots.{passes}
 use Rattle.mk_client.specs.Wanted.{next_wanted, wanted_keys}
-use Rattle.mk_column.specs.declared.KeyCall.{KeyCall}
-use Rattle.mk_column.specs.declared.Step.TheVariants.{Begin, Read, Key}
-use Rattle.mk_column.specs.ColumnState.{Setting, ColumnState, AttemptState, ClientState, Work, attempt_of, client_of, is_attempt, is_client}
-use Rattle.mk_column.specs.ColumnState.Work.{Idle, Fetching, Validating, Finishing}
-use Rattle.mk_column.specs.Conditions.{blocked, conditions, is_idle, same_call, wanted}
-use Rattle.mk_column.specs.Steps.{answered, beginning, begun, column_after, epoch_of, new_attempt, on_some, with_read}
+use Rattle.mk_words.specs.declared.KeyCall.{KeyCall}
+use Rattle.mk_words.specs.declared.Step.TheVariants.{Begin, Read, Key}
+use Rattle.mk_model.specs.ColumnState.{Setting, ColumnState, AttemptState, ClientState, Work, attempt_of, client_of, is_attempt, is_client}
+use Rattle.mk_model.specs.ColumnState.Work.{Idle, Fetching, Validating, Finishing}
+use Rattle.mk_model.specs.Conditions.{blocked, conditions, is_idle, same_call, wanted}
+use Rattle.mk_model.specs.Steps.{answered, beginning, begun, column_after, epoch_of, new_attempt, on_some, with_read}
 use Rattle.mk_driver.specs.declared.Caller.{Caller}
 use Rattle.mk_driver.specs.declared.Request.{Request}
 use Rattle.mk_driver.specs.Agenda.{is_caller, trial_by}

@@ -6,18 +6,18 @@ use Rattle.mk_txn.specs.declared.TxnId.{TxnId}
 use Rattle.mk_txn.specs.declared.Vote.{Vote}
 use Rattle.mk_txn.specs.declared.Outcome.{Outcome}
 use Rattle.mk_txn.specs.Transactions.{Transaction}
-use Rattle.mk_record.specs.declared.Entry.{Entry}
-use Rattle.mk_record.specs.Entries.{entry_of}
-use Rattle.mk_msg.specs.declared.Told.{Told}
-use Rattle.mk_msg.specs.declared.Moved.{Moved}
-use Rattle.mk_msg.specs.declared.Msg.{Msg}
-use Rattle.mk_msg.specs.declared.Body.{Body}
-use Rattle.mk_msg.specs.declared.Body.TheVariants.{Validate as ValidateBody, Voted, Accept, Accepted as AcceptedBody, Decide, Ask, Told as ToldBody, Moved as MovedBody}
-use Rattle.mk_valid.specs.Checks.{KeyAct}
-use Rattle.mk_valid.specs.Validations.{next_act, validation_of}
-use Rattle.mk_merge.specs.declared.ReplicaView.{ReplicaView}
-use Rattle.mk_column.specs.Conditions.{is_validate_of}
-use Rattle.mk_column.specs.Replicas.{Held, Reaction, ignored, answering, finishing, is_serving, validate_unfinished, validate_known, on_validate, ask_known, accept_known, decide_known, entry_or_opened, with_entry, reaction, moved_reaction, reaction_by_view}
+use Rattle.mk_words.specs.declared.Entry.{Entry}
+use Rattle.mk_words.specs.Entries.{entry_of}
+use Rattle.mk_words.specs.declared.Told.{Told}
+use Rattle.mk_words.specs.declared.Moved.{Moved}
+use Rattle.mk_words.specs.declared.Msg.{Msg}
+use Rattle.mk_words.specs.declared.Body.{Body}
+use Rattle.mk_words.specs.declared.Body.TheVariants.{Validate as ValidateBody, Voted, Accept, Accepted as AcceptedBody, Decide, Ask, Told as ToldBody, Moved as MovedBody}
+use Rattle.mk_words.specs.Checks.{KeyAct}
+use Rattle.mk_words.specs.Validations.{next_act, validation_of}
+use Rattle.mk_trim.specs.declared.ReplicaView.{ReplicaView}
+use Rattle.mk_model.specs.Conditions.{is_validate_of}
+use Rattle.mk_model.specs.Replicas.{Held, Reaction, ignored, answering, finishing, is_serving, validate_unfinished, validate_known, on_validate, ask_known, accept_known, decide_known, entry_or_opened, with_entry, reaction, moved_reaction, reaction_by_view}
 use Rattle.mk_driver_laws.proofs.ColumnMoves.{WasSent, WorkFits}
 
 -- an answer to this message

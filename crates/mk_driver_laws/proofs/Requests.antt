@@ -1,9 +1,10 @@
 -- What a script's transactions ask for: at least one item and at most 16, of keys that there are, and a clock that is not too late.
-use Rattle.std.proofs.Common.{◌≡◌, ◌<◌, ◌≤◌, ℕ, zero, suc, ◌^◌, Bool, true, false, refl, sym, subst, ap, arith, List, [], ◌∷◌, ◌++◌, map, length, Option, Some, None, if◌then◌else◌}
-use Rattle.std.specs.Prelude.{bytes_eq, is_some, slice_index_or}
+use Rattle.std.proofs.Common.{◌≡◌, ◌<◌, ◌≤◌, ℕ, zero, suc, ◌^◌, refl, sym, subst, ap, arith, List, [], ◌∷◌, ◌++◌, map, length, Option, Some, None, if◌then◌else◌}
+use Rattle.std.specs.Prelude.{is_some, slice_index_or}
 use Rattle.std.proofs.lemmas.List.{length-append, length-map}
 use Rattle.mk_lists.specs.Among.{Each}
-use Rattle.mk_text.specs.Fields.{place, one_on}
+use Rattle.mk_spelling.specs.Fields.{place}
+use Rattle.mk_spelling.proofs.PlaceLaws.{place_below}
 use Rattle.mk_names.specs.NameLists.{with_name}
 use Rattle.mk_proc.specs.declared.Item.{Item}
 use Rattle.mk_proc.specs.Items.{key_of}
@@ -17,7 +18,6 @@ use Rattle.mk_script.specs.Whole.{IsWhole, IsTxnAt, TxnsAt, RoundsAt}
 use Rattle.mk_driver.specs.declared.Request.{Request}
 use Rattle.mk_driver.specs.declared.Submission.{Submission}
 use Rattle.mk_driver.specs.Driven.{empty_round, lines_of_round, round_at, submitted_by}
-use Rattle.mk_driver_laws.proofs.Lookups.{some_same}
 
 -- the item's key is one of so many
 abbrev pub IsKnown : ℕ → Item → Type 0
@@ -44,15 +44,6 @@ RoundFits keys round = Each (LineFits keys) round.txns
 
 -- ---- keys
 
-place_within : (word : List ℕ) (names : List (List ℕ)) (n : ℕ) → place word names ≡ Some n → n < length names
-place_within word [] n e = absurd (cc e)
-place_within word (x ∷ names) n e = by (bytes_eq word x) (place word names) (place_within word names) e
-  where
-    by : (b : Bool) (o : Option ℕ) → ((m : ℕ) → o ≡ Some m → m < length names) → (if b then Some 0 else one_on o) ≡ Some n → n < length (x ∷ names)
-    by true o f q = let same : 0 ≡ n = some_same 0 n q in omega (arith, same)
-    by false None f q = absurd (cc q)
-    by false (Some m) f q = let same : suc m ≡ n = some_same (suc m) n q in let h = f m refl in omega (arith, same, h)
-
 -- a name is there, and none goes
 name_grows : (keys : List (List ℕ)) (name : List ℕ) → (length keys ≤ length (with_name keys name)) × (0 < length (with_name keys name))
 name_grows keys name = by (place name keys) refl
@@ -65,7 +56,7 @@ name_grows keys name = by (place name keys) refl
         let all = length-append keys (name ∷ []) in
         subst (λ (o : Option ℕ). Grows (if is_some o then keys else keys ++ name ∷ [])) (sym e) (omega (arith, all), omega (arith, all))
     by (Some n) e =
-        let within = place_within name keys n e in
+        let within = place_below name keys n e in
         subst (λ (o : Option ℕ). Grows (if is_some o then keys else keys ++ name ∷ [])) (sym e) (omega arith, omega (arith, within))
 
 names_grow : (keys : List (List ℕ)) (mentions : List Mention) → length keys ≤ length (keys_after keys mentions)
@@ -89,7 +80,7 @@ number_below keys name h = by (place name keys) refl
   where
     by : (o : Option ℕ) → place name keys ≡ o → or_zero (place name keys) < length keys
     by None e = subst (λ (o : Option ℕ). or_zero o < length keys) (sym e) h
-    by (Some n) e = subst (λ (o : Option ℕ). or_zero o < length keys) (sym e) (place_within name keys n e)
+    by (Some n) e = subst (λ (o : Option ℕ). or_zero o < length keys) (sym e) (place_below name keys n e)
 
 items_known : (keys : List (List ℕ)) (n : ℕ) (mentions : List Mention) → 0 < length keys → length keys ≤ n → Each (IsKnown n) (map (item_of keys) mentions)
 items_known keys n [] h g = tt

@@ -4,12 +4,12 @@ use Rattle.std.specs.Prelude.{find, option_map, ◌==◌}
 use Rattle.std.specs.List.{list_any}
 use Rattle.mk_lists.specs.Among.{Each, Each-weaker}
 use Rattle.mk_txn.specs.declared.TxnId.{TxnId}
-use Rattle.mk_merge.specs.declared.ReplicaView.{ReplicaView}
-use Rattle.mk_global.specs.declared.GlobalEntry.{GlobalEntry}
-use Rattle.mk_global.specs.declared.GlobalLine.{GlobalLine}
-use Rattle.mk_global.specs.declared.GlobalLine.TheVariants.{Wipe, Ask, Promise, Merge, Adopt, Enter}
-use Rattle.mk_epoch.specs.GlobalAnswers.{is_accepted}
-use Rattle.mk_msg.specs.declared.Msg.{Msg}
+use Rattle.mk_trim.specs.declared.ReplicaView.{ReplicaView}
+use Rattle.mk_words.specs.declared.GlobalEntry.{GlobalEntry}
+use Rattle.mk_words.specs.declared.GlobalLine.{GlobalLine}
+use Rattle.mk_words.specs.declared.GlobalLine.TheVariants.{Wipe, Ask, Promise, Merge, Adopt, Enter}
+use Rattle.mk_model.specs.GlobalAnswers.{is_accepted}
+use Rattle.mk_words.specs.declared.Msg.{Msg}
 use Rattle.mk_quorum.specs.Slots.{passes}
 use Rattle.mk_script.specs.declared.lines.Point.{Point}
 use Rattle.mk_script.specs.declared.lines.Point.TheVariants.{Read as AfterRead, Votes as AfterVotes, Accepts as AfterAccepts}
@@ -17,14 +17,14 @@ use Rattle.mk_script.specs.Scripts.{ScriptParts}
 use Rattle.mk_script.specs.Whole.{IsWhole}
 use Rattle.mk_script.specs.declared.lines.ClientLine.{ClientLine}
 use Rattle.mk_faults.specs.Fates.{rules_of}
-use Rattle.mk_cell.specs.declared.Answer.{Answer}
-use Rattle.mk_column.specs.declared.KeyCall.{KeyCall}
-use Rattle.mk_column.specs.declared.Step.{Step}
-use Rattle.mk_column.specs.declared.Step.TheVariants.{Key}
-use Rattle.mk_column.specs.ColumnState.{Setting, ColumnState, AttemptState, attempt_of, is_attempt, new_column}
-use Rattle.mk_column.specs.Conditions.{blocked, is_stamped, is_validate_of}
-use Rattle.mk_column.specs.Steps.{column_after}
-use Rattle.mk_column.specs.Logs.{not_reading, reading_ended, replica_reset}
+use Rattle.mk_words.specs.declared.Answer.{Answer}
+use Rattle.mk_words.specs.declared.KeyCall.{KeyCall}
+use Rattle.mk_words.specs.declared.Step.{Step}
+use Rattle.mk_words.specs.declared.Step.TheVariants.{Key}
+use Rattle.mk_model.specs.ColumnState.{Setting, ColumnState, AttemptState, attempt_of, is_attempt, new_column}
+use Rattle.mk_model.specs.Conditions.{blocked, is_stamped, is_validate_of}
+use Rattle.mk_model.specs.Steps.{column_after}
+use Rattle.mk_model.specs.Logs.{not_reading, reading_ended, replica_reset}
 use Rattle.mk_history.specs.Histories.{log_of, clients_of}
 use Rattle.mk_driver.specs.declared.DriverState.{DriverState}
 use Rattle.mk_driver.specs.declared.Caller.{Caller}
@@ -348,15 +348,20 @@ past_fits script whole c number standing (past ∷ rounds) h done =
     (through_fits script past.views (standing_begun script number standing) (log_of past.round c) (begun_fits script whole number standing h) done.0) done.1)
     done.2
 
+-- what holds of driver and column wherever named steps lead to
+pub come_fits : (script : ScriptParts) → IsWhole script → (c : ℕ) (rounds : List PastRound) (views : List ReplicaView) (log : List Step) →
+    HasCome script c rounds views log → Fits script (standing_at script c rounds views log)
+come_fits script whole c rounds views log come =
+    through_fits script views (standing_past script c 0 (first_standing script c) rounds) log
+    (past_fits script whole c 0 (first_standing script c) rounds (first_fits script c) come.past) come.done
+
 -- wherever the turns name a step, it is enabled once its client is known to have a place left
 pub named_with_place : (script : ScriptParts) → IsWhole script → (c : ℕ) (rounds : List PastRound) (views : List ReplicaView) (log : List Step) →
     HasCome script c rounds views log → (step : Step) → turn script c rounds views log ≡ StepNext step →
     IsSureWithPlace (setting_in script views) (let standing = standing_at script c rounds views log in standing.column) step
 named_with_place script whole c rounds views log come step e =
     let standing = standing_at script c rounds views log in
-    let fits : Fits script standing =
-    through_fits script views (standing_past script c 0 (first_standing script c) rounds) log
-    (past_fits script whole c 0 (first_standing script c) rounds (first_fits script c) come.past) come.done in
+    let fits = come_fits script whole c rounds views log come in
     let named = subst (λ (next : Next). NamedFits (setting_in script views) standing.column next (let chosen = choice (rules_of script) (setting_in script views) standing.column standing.driver in chosen.driver)) e
     (choice_fits (rules_of script) (setting_in script views) standing.column fits.column standing.driver fits.asks fits.driver) in
     named.0

@@ -11,16 +11,16 @@ use Rattle.mk_txn.specs.declared.WriteItem.{WriteItem}
 use Rattle.mk_txn.specs.declared.Vote.{Vote}
 use Rattle.mk_txn.specs.Transactions.{Transaction, same_id}
 use Rattle.mk_txn.specs.Outcomes.{is_ok_vote}
-use Rattle.mk_msg.specs.declared.Msg.{Msg}
-use Rattle.mk_msg.specs.declared.Body.{Body}
+use Rattle.mk_words.specs.declared.Msg.{Msg}
+use Rattle.mk_words.specs.declared.Body.{Body}
 use Rattle.mk_quorum.specs.Counts.{count_below}
 use Rattle.mk_quorum.specs.Sizes.{members, majority_of, fast_of}
 use Rattle.mk_quorum.specs.Slots.{passes, slot, count_slots, empty_slots}
-use Rattle.mk_valid.specs.Validations.{next_act, validation_of}
-use Rattle.mk_coord.specs.Rulings.{new_coord, ruling, is_abort_vote, any_vote}
-use Rattle.mk_column.specs.declared.Step.{Step}
-use Rattle.mk_column.specs.ColumnState.{ColumnState, AttemptState, TakeoverOf, attempt_of, takeover_of, is_attempt, is_client, is_takeover, to_all, numbers_from}
-use Rattle.mk_column.specs.Conditions.{is_validate_of, is_stamped, on_attempt, acts_on}
+use Rattle.mk_words.specs.Validations.{next_act, validation_of}
+use Rattle.mk_words.specs.Rulings.{new_coord, ruling, is_abort_vote, any_vote}
+use Rattle.mk_words.specs.declared.Step.{Step}
+use Rattle.mk_model.specs.ColumnState.{ColumnState, AttemptState, TakeoverOf, attempt_of, takeover_of, is_attempt, is_client, is_takeover, to_all, numbers_from}
+use Rattle.mk_model.specs.Conditions.{is_validate_of, is_stamped, on_attempt, acts_on}
 use Rattle.mk_driver_laws.proofs.Lookups.{same_id-tells, find-change, find-change_other, apart_ids, each_map, none_changed}
 use Rattle.mk_driver_laws.proofs.ColumnMoves.{WasSent, stops, validates, ColumnFits, WorkFits, AttemptKept, AttemptMove, MessageFits, Moves}
 use Rattle.mk_driver_laws.proofs.ColumnMoves.AttemptMove.{Stays, Changes}

@@ -1,10 +1,10 @@
 -- A step is enabled once its client is known to have a place left, where it takes one.
 use Rattle.std.specs.Prelude.{true, ◌≡◌, ◌≤◌, length, None}
 use Rattle.mk_quorum.specs.Sizes.{members}
-use Rattle.mk_column.specs.declared.Step.{Step}
-use Rattle.mk_column.specs.declared.Step.TheVariants.{Begin, Unread, Read, Stamp, Validate, Take, Key, Rule, Again, Takeover, Pick, Stop}
-use Rattle.mk_column.specs.ColumnState.{Setting, ColumnState}
-use Rattle.mk_column.specs.Conditions.{blocked, has_seq_left}
+use Rattle.mk_words.specs.declared.Step.{Step}
+use Rattle.mk_words.specs.declared.Step.TheVariants.{Begin, Unread, Read, Stamp, Validate, Take, Key, Rule, Again, Takeover, Pick, Stop}
+use Rattle.mk_model.specs.ColumnState.{Setting, ColumnState}
+use Rattle.mk_model.specs.Conditions.{blocked, has_seq_left}
 use Rattle.mk_driver_laws.specs.Enabled.{IsSure}
 
 -- where the step takes a place, its client has one left

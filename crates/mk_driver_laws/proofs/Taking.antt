@@ -8,25 +8,25 @@ use Rattle.mk_txn.specs.declared.Stamp.{Stamp as StampType}
 use Rattle.mk_txn.specs.declared.WriteItem.{WriteItem}
 use Rattle.mk_txn.specs.Stamps.{next_stamp_of}
 use Rattle.mk_txn.specs.Transactions.{Transaction, same_id}
-use Rattle.mk_cell.specs.declared.Answer.{Answer}
-use Rattle.mk_msg.specs.declared.Msg.{Msg}
-use Rattle.mk_msg.specs.declared.Body.{Body}
-use Rattle.mk_msg.specs.declared.Body.TheVariants.{Validate as ValidateBody, Voted, Accept, Accepted as AcceptedBody, Decide, Ask, Told as ToldBody, Moved as MovedBody}
-use Rattle.mk_msg.specs.Links.{message, goes_to_replica}
-use Rattle.mk_valid.specs.Checks.{KeyAct}
-use Rattle.mk_valid.specs.Validations.{ValidationState, next_act, after_answer, validation_of, vote_of}
-use Rattle.mk_coord.specs.Rulings.{ruling}
-use Rattle.mk_takeover.specs.Picks.{TakeoverState, pick}
-use Rattle.mk_column.specs.declared.KeyCall.{KeyCall}
-use Rattle.mk_column.specs.declared.Step.{Step}
-use Rattle.mk_column.specs.declared.Step.TheVariants.{Begin, Unread, Read, Stamp, Validate, Take, Key, Rule, Again, Takeover, Pick as PickStep, Stop}
-use Rattle.mk_column.specs.ColumnState.{Setting, ColumnState, AttemptState, TakeoverOf, ClientState, Learning, Work, attempt_of, client_of, takeover_of, is_attempt, is_client, is_takeover, change_attempt, change_client, change_takeover, send, to_all, mark_sent}
-use Rattle.mk_column.specs.ColumnState.Work.{Idle, Fetching, Validating, Finishing}
-use Rattle.mk_column.specs.Conditions.{blocked, conditions, is_validate_of, is_stamped, on_attempt, acts_on}
-use Rattle.mk_column.specs.Replicas.{Reaction, reaction_by_view, held_at}
-use Rattle.mk_column.specs.Answers.{state_answered, own_answered, takeover_heard, takeover_answered, attempt_answered, heard_of, listens, is_led}
-use Rattle.mk_column.specs.Learnings.{txn_of, learned_in_step}
-use Rattle.mk_column.specs.Steps.{on_some, beginning, left_unread, next_id, new_attempt, unread_attempt, epoch_of, stamping, stamped, with_txn, with_last_time, ruled, sent_again, taken_over, picking, replica_takes, taken, answered, fetched, with_read, validated, voted_msg, column_after, stepped}
+use Rattle.mk_words.specs.declared.Answer.{Answer}
+use Rattle.mk_words.specs.declared.Msg.{Msg}
+use Rattle.mk_words.specs.declared.Body.{Body}
+use Rattle.mk_words.specs.declared.Body.TheVariants.{Validate as ValidateBody, Voted, Accept, Accepted as AcceptedBody, Decide, Ask, Told as ToldBody, Moved as MovedBody}
+use Rattle.mk_words.specs.Links.{message, goes_to_replica}
+use Rattle.mk_words.specs.Checks.{KeyAct}
+use Rattle.mk_words.specs.Validations.{ValidationState, next_act, after_answer, validation_of, vote_of}
+use Rattle.mk_words.specs.Rulings.{ruling}
+use Rattle.mk_words.specs.Picks.{TakeoverState, pick}
+use Rattle.mk_words.specs.declared.KeyCall.{KeyCall}
+use Rattle.mk_words.specs.declared.Step.{Step}
+use Rattle.mk_words.specs.declared.Step.TheVariants.{Begin, Unread, Read, Stamp, Validate, Take, Key, Rule, Again, Takeover, Pick as PickStep, Stop}
+use Rattle.mk_model.specs.ColumnState.{Setting, ColumnState, AttemptState, TakeoverOf, ClientState, Learning, Work, attempt_of, client_of, takeover_of, is_attempt, is_client, is_takeover, change_attempt, change_client, change_takeover, send, to_all, mark_sent}
+use Rattle.mk_model.specs.ColumnState.Work.{Idle, Fetching, Validating, Finishing}
+use Rattle.mk_model.specs.Conditions.{blocked, conditions, is_validate_of, is_stamped, on_attempt, acts_on}
+use Rattle.mk_model.specs.Replicas.{Reaction, reaction_by_view, held_at}
+use Rattle.mk_model.specs.Answers.{state_answered, own_answered, takeover_heard, takeover_answered, attempt_answered, heard_of, listens, is_led}
+use Rattle.mk_model.specs.Learnings.{txn_of, learned_in_step}
+use Rattle.mk_model.specs.Steps.{on_some, beginning, left_unread, next_id, new_attempt, unread_attempt, epoch_of, stamping, stamped, with_txn, with_last_time, ruled, sent_again, taken_over, picking, replica_takes, taken, answered, fetched, with_read, validated, voted_msg, column_after, stepped}
 use Rattle.mk_driver_laws.proofs.Lookups.{same_id-tells, same_id-itself, some_same, there, passes-some, find-passes, any-right, changed_from, none_changed, eqb-tells, member-slice_get, and_left}
 use Rattle.mk_driver_laws.proofs.Conditions.{all_hold}
 use Rattle.mk_driver_laws.proofs.ColumnMoves.{WasSent, stops, validates, ColumnFits, WorkFits, AttemptKept, MessageFits, Moves}
@@ -106,7 +106,7 @@ module _ (f : ℕ) (c : ColumnState) (k : ColumnFits f c) (l : List Learning) wh
       One m = (r : ℕ) × (m ≡ record { epoch = epoch; id = id; replica = r; view = 0; body = ValidateBody mark })
 
       to_all_each : (f : ℕ) → Each One (to_all f epoch id 0 (ValidateBody mark))
-      to_all_each f = each_of (Rattle.mk_column.specs.ColumnState.numbers_from 0 (Rattle.mk_quorum.specs.Sizes.members f))
+      to_all_each f = each_of (Rattle.mk_model.specs.ColumnState.numbers_from 0 (Rattle.mk_quorum.specs.Sizes.members f))
         where
           each_of : (ns : List ℕ) → Each One (map (λ r. record { epoch = epoch; id = id; replica = r; view = 0; body = ValidateBody mark }) ns)
           each_of [] = tt
@@ -122,7 +122,7 @@ module _ (f : ℕ) (c : ColumnState) (k : ColumnFits f c) (l : List Learning) wh
   -- ---- taking
 
   replica_moves : (number : ℕ) (msg : Msg) (r : Reaction) → WasSent c.link msg.id → ReactionFits c.link msg r →
-      (records : List (List Rattle.mk_record.specs.declared.Entry.Entry)) (marks : List Rattle.mk_txn.specs.MarkMaps.MarkMap) →
+      (records : List (List Rattle.mk_words.specs.declared.Entry.Entry)) (marks : List Rattle.mk_txn.specs.MarkMaps.MarkMap) →
       Moves f c (with_learned l (record c { records = records; marks = marks; link = c.link ++ r.sent; work = r.work })) (Take number)
   replica_moves number msg r w h records marks =
       moves_plain f c _ (Take number) k refl refl refl r.sent refl
@@ -237,7 +237,7 @@ module _ (f : ℕ) (c : ColumnState) (k : ColumnFits f c) (l : List Learning) wh
   read_moves id key None = nothing_moves f c k l (Read id key) (λ i z. absurd (cc z))
 
   picking_moves : (round : Setting) (id : TxnId) (view : ℕ) (a : AttemptState) → round.faults ≡ f → attempt_of c a.id ≡ Some a → (o : Option TakeoverOf) → takeover_of c a.id view ≡ o →
-      Moves f c (with_learned l (on_some (λ t col. Rattle.mk_column.specs.Steps.picked f view a (pick f t.state) col) o c)) (PickStep id view)
+      Moves f c (with_learned l (on_some (λ t col. Rattle.mk_model.specs.Steps.picked f view a (pick f t.state) col) o c)) (PickStep id view)
   picking_moves round id view a s e None t = nothing_moves f c k l (PickStep id view) (λ i z. absurd (cc z))
   picking_moves round id view a s e (Some takeover) t =
       let w = k.takeovers a.id view takeover t in pick_moves f c k l id view a (pick f takeover.state) (k.stamped a.id w) w

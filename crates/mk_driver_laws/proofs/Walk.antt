@@ -7,17 +7,17 @@ use Rattle.mk_txn.specs.declared.TxnId.{TxnId}
 use Rattle.mk_txn.specs.declared.Outcome.{Outcome}
 use Rattle.mk_txn.specs.declared.Outcome.TheVariants.{Commit, Abort}
 use Rattle.mk_txn.specs.Transactions.{same_id}
-use Rattle.mk_msg.specs.declared.Msg.{Msg}
-use Rattle.mk_msg.specs.Links.{message}
+use Rattle.mk_words.specs.declared.Msg.{Msg}
+use Rattle.mk_words.specs.Links.{message}
 use Rattle.mk_script.specs.declared.lines.Point.{Point}
 use Rattle.mk_script.specs.declared.lines.Fate.{Fate}
 use Rattle.mk_script.specs.declared.lines.Fate.TheVariants.{Deliver as DeliverFate, Lose, Twice, Late as LateFate, NextRound}
 use Rattle.mk_faults.specs.Fates.{RuleLines, fate_at}
-use Rattle.mk_column.specs.declared.Step.{Step}
-use Rattle.mk_column.specs.declared.Step.TheVariants.{Validate, Take as TakeStep, Rule, Again, Takeover as TakeoverStep, Pick, Stop}
-use Rattle.mk_column.specs.ColumnState.{Setting, ColumnState, AttemptState, attempt_of, numbers_from}
-use Rattle.mk_column.specs.Conditions.{blocked, conditions, is_idle}
-use Rattle.mk_column.specs.Steps.{column_after}
+use Rattle.mk_words.specs.declared.Step.{Step}
+use Rattle.mk_words.specs.declared.Step.TheVariants.{Validate, Take as TakeStep, Rule, Again, Takeover as TakeoverStep, Pick, Stop}
+use Rattle.mk_model.specs.ColumnState.{Setting, ColumnState, AttemptState, attempt_of, numbers_from}
+use Rattle.mk_model.specs.Conditions.{blocked, conditions, is_idle}
+use Rattle.mk_model.specs.Steps.{column_after}
 use Rattle.mk_driver.specs.declared.DriverState.{DriverState}
 use Rattle.mk_driver.specs.declared.Part.{Part}
 use Rattle.mk_driver.specs.declared.Task.{Task}

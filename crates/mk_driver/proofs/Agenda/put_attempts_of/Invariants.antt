@@ -1,7 +1,7 @@
 -- The attempts up to this one, before what was put, are all that the client has.
 use Rattle.std.proofs.Common.{◌≡◌, ◌-◌, ◌++◌}
 use Rattle.std.specs.Prelude.{flat_map}
-use Rattle.mk_column.specs.ColumnState.{numbers_from}
+use Rattle.mk_model.specs.ColumnState.{numbers_from}
 use Rattle.mk_driver.specs.Turns.{attempt_task}
 use Rattle.mk_driver.proofs.Agenda.put_attempts_of.Given as goal
 

@@ -1,7 +1,7 @@
 -- The takeovers before this place, before what was put, are all.
 use Rattle.std.proofs.Common.{◌≡◌, ◌++◌, length}
 use Rattle.std.specs.Prelude.{flat_map}
-use Rattle.mk_column.specs.ColumnState.{numbers_from, open_at}
+use Rattle.mk_model.specs.ColumnState.{numbers_from, open_at}
 use Rattle.mk_driver.specs.Turns.{open_task}
 use Rattle.mk_driver.proofs.Agenda.put_open.Given as goal
 

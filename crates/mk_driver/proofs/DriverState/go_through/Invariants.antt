@@ -1,6 +1,6 @@
 -- The rest of this pass and the passes left come to what all come to, and so do the rest of this pass and two more.
 use Rattle.std.proofs.Common.{◌≡◌, ◌-◌, length}
-use Rattle.mk_column.specs.ColumnState.{numbers_from}
+use Rattle.mk_model.specs.ColumnState.{numbers_from}
 use Rattle.mk_driver.specs.declared.DriverState.{DriverState}
 use Rattle.mk_driver.specs.Passes.{in_pass, after_passes, turns}
 use Rattle.mk_driver.specs.Passing.{without_first}

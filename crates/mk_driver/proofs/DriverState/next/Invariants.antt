@@ -1,7 +1,7 @@
 -- What the tasks and parts that are left name is what all of them name.
 use Rattle.std.proofs.Common.{◌≡◌, length}
 use Rattle.std.specs.Prelude.{None}
-use Rattle.mk_column.specs.Conditions.{wanted}
+use Rattle.mk_model.specs.Conditions.{wanted}
 use Rattle.mk_driver.specs.Turns.{in_agenda, in_parts}
 use Rattle.mk_driver.proofs.DriverState.next.Given as goal
 

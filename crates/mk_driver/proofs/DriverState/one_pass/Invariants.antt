@@ -1,6 +1,6 @@
 -- The rest of the pass comes to what the whole comes to.
 use Rattle.std.proofs.Common.{◌≡◌, ◌-◌, Bool, length}
-use Rattle.mk_column.specs.ColumnState.{numbers_from}
+use Rattle.mk_model.specs.ColumnState.{numbers_from}
 use Rattle.mk_driver.specs.declared.DriverState.{DriverState}
 use Rattle.mk_driver.specs.Agenda.{Worked}
 use Rattle.mk_driver.specs.Passes.{in_pass}

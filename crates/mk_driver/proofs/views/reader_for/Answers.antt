@@ -2,7 +2,7 @@ use Rattle.std.proofs.Common.{◌∙◌, ◌+◌, ◌%◌, arith}
 use Rattle.std.specs.Prelude.{slice_get}
 use Rattle.mk_quorum.specs.Sizes.{members}
 use Rattle.mk_quorum.specs.Slots.{passes}
-use Rattle.mk_column.specs.Conditions.{heard_by, serves_from}
+use Rattle.mk_model.specs.Conditions.{heard_by, serves_from}
 use Rattle.mk_driver.proofs.Reading.{find-over}
 use Rattle.mk_driver.proofs.views.reader_for.Goals as goal
 

@@ -3,8 +3,8 @@ use Rattle.std.proofs.Common.{◌≡◌, ◌+◌, ◌-◌, ◌%◌, map, find}
 use Rattle.std.specs.Prelude.{slice_get}
 use Rattle.mk_quorum.specs.Sizes.{members}
 use Rattle.mk_quorum.specs.Slots.{passes}
-use Rattle.mk_column.specs.ColumnState.{numbers_from}
-use Rattle.mk_column.specs.Conditions.{heard_by, serves_from}
+use Rattle.mk_model.specs.ColumnState.{numbers_from}
+use Rattle.mk_model.specs.Conditions.{heard_by, serves_from}
 use Rattle.mk_driver.specs.Stages.{reader_for as first_reader}
 use Rattle.mk_driver.proofs.views.reader_for.Given as goal
 

@@ -1,0 +1,29 @@
+-- A superseded epoch that was adopted teaches.
+use Rattle.std.proofs.Common.{◌≡◌, [], ◌∷◌, refl}
+use Rattle.mk_words.specs.declared.GlobalLine.TheVariants.{Ask, Promise as PromiseLine, Merge, Adopt, Enter}
+use Rattle.mk_words.specs.declared.MsgKind.TheVariants.{Validate as ValidateKind}
+use Rattle.mk_proc.specs.declared.Item.TheVariants.{Write}
+use Rattle.mk_script.specs.Scripts.{ScriptParts}
+use Rattle.mk_script.specs.declared.lines.Fate.TheVariants.{Lose}
+use Rattle.mk_history.proofs.SupersededEpochTeaches.{run}
+use Rattle.mk_driver.specs.Driven.{IsDriven}
+use Rattle.mk_driver.proofs.Cases.Rows.{named_in, expected_in, driven_run}
+
+abbrev script : ScriptParts
+script =
+    record {
+      version = 1;
+      size = 1;
+      retry = 0;
+      clients = record { name = 97 ∷ []; column = 0; home = 0 } ∷ [];
+      keys = (120 ∷ []) ∷ [];
+      faults = record { kind = ValidateKind; id = record { client = 1; seq = 1 }; replica = 0; nth = 1; fate = Lose } ∷ (record { kind = ValidateKind; id = record { client = 1; seq = 1 }; replica = 2; nth = 1; fate = Lose } ∷ []);
+      stops = [];
+      rounds = record { txns = record { client = 1; clock = 10; items = Write 0 5 ∷ [] } ∷ []; takeovers = []; globals = Ask 1 ∷ (PromiseLine 1 1 ∷ (PromiseLine 1 0 ∷ (Merge 1 ∷ (Adopt 1 0 ∷ (Adopt 1 1 ∷ (Ask 2 ∷ (PromiseLine 2 2 ∷ (PromiseLine 2 0 ∷ (Merge 2 ∷ (Adopt 2 2 ∷ (Adopt 2 0 ∷ (Adopt 2 1 ∷ (Enter 1 ∷ []))))))))))))) } ∷ [];
+    }
+
+pub driven : named_in script run ≡ expected_in run
+driven = refl
+
+pub is_driven : IsDriven script run
+is_driven = driven_run script run driven (refl, tt) refl refl refl refl refl refl refl

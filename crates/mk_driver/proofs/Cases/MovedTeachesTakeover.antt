@@ -1,0 +1,30 @@
+-- A takeover that a Moved teaches.
+use Rattle.std.proofs.Common.{◌≡◌, [], ◌∷◌, refl}
+use Rattle.mk_words.specs.declared.GlobalLine.TheVariants.{Ask, Promise as PromiseLine, Merge, Adopt, Enter}
+use Rattle.mk_words.specs.declared.MsgKind.TheVariants.{Validate as ValidateKind}
+use Rattle.mk_proc.specs.declared.Item.TheVariants.{Write}
+use Rattle.mk_script.specs.Scripts.{ScriptParts}
+use Rattle.mk_script.specs.declared.lines.Fate.TheVariants.{Lose}
+use Rattle.mk_script.specs.declared.lines.Point.TheVariants.{Votes as AfterVotes}
+use Rattle.mk_history.proofs.MovedTeachesTakeover.{run}
+use Rattle.mk_driver.specs.Driven.{IsDriven}
+use Rattle.mk_driver.proofs.Cases.Rows.{named_in, expected_in, driven_run}
+
+abbrev script : ScriptParts
+script =
+    record {
+      version = 1;
+      size = 1;
+      retry = 0;
+      clients = record { name = 97 ∷ []; column = 0; home = 0 } ∷ [];
+      keys = (120 ∷ []) ∷ [];
+      faults = record { kind = ValidateKind; id = record { client = 1; seq = 1 }; replica = 1; nth = 1; fate = Lose } ∷ (record { kind = ValidateKind; id = record { client = 1; seq = 1 }; replica = 2; nth = 1; fate = Lose } ∷ []);
+      stops = record { id = record { client = 1; seq = 1 }; point = AfterVotes } ∷ [];
+      rounds = record { txns = record { client = 1; clock = 10; items = Write 0 5 ∷ [] } ∷ []; takeovers = []; globals = Ask 1 ∷ (PromiseLine 1 1 ∷ (PromiseLine 1 2 ∷ (Merge 1 ∷ (Adopt 1 1 ∷ (Adopt 1 2 ∷ (Enter 1 ∷ [])))))) } ∷ (record { txns = []; takeovers = record { id = record { client = 1; seq = 1 }; view = 3 } ∷ []; globals = [] } ∷ []);
+    }
+
+pub driven : named_in script run ≡ expected_in run
+driven = refl
+
+pub is_driven : IsDriven script run
+is_driven = driven_run script run driven (refl, (refl, tt)) refl refl refl refl refl refl refl

@@ -1,0 +1,103 @@
+-- Two workers.
+use Rattle.std.proofs.Common.{◌≡◌, List, [], ◌∷◌, refl}
+use Rattle.mk_txn.specs.declared.Value.TheVariants.{Number}
+use Rattle.mk_words.specs.declared.Act.TheVariants.{Get, CheckRead, CheckWrite, CommitRead, CommitWrite}
+use Rattle.mk_words.specs.declared.Answer.TheVariants.{Version, Okay, Done}
+use Rattle.mk_words.specs.declared.GlobalEntry.{GlobalEntry}
+use Rattle.mk_proc.specs.declared.ProcKind.TheVariants.{Add}
+use Rattle.mk_proc.specs.declared.Item.TheVariants.{Read, Write, Compute}
+use Rattle.mk_script.specs.Scripts.{ScriptParts}
+use Rattle.mk_words.specs.declared.Step.{Step}
+use Rattle.mk_words.specs.declared.Step.TheVariants.{Begin, Read as ReadStep, Stamp, Validate, Take, Key, Rule}
+use Rattle.mk_history.specs.declared.RoundLog.{RoundLog}
+use Rattle.mk_history.specs.Histories.{History}
+use Rattle.mk_driver.specs.Driven.{IsDriven}
+use Rattle.mk_driver.proofs.Cases.Rows.{run_of, named_in, expected_in, driven_run}
+
+abbrev script : ScriptParts
+script =
+    record {
+      version = 1;
+      size = 1;
+      retry = 0;
+      clients = record { name = 97 ∷ []; column = 0; home = 0 } ∷ (record { name = 98 ∷ []; column = 1; home = 1 } ∷ []);
+      keys = (120 ∷ []) ∷ ((121 ∷ []) ∷ []);
+      faults = [];
+      stops = [];
+      rounds = record { txns = record { client = 1; clock = 10; items = Read 0 ∷ (Write 0 5 ∷ []) } ∷ (record { client = 2; clock = 10; items = Read 1 ∷ (Compute 1 Add 7 ∷ []) } ∷ []); takeovers = []; globals = [] } ∷ [];
+    }
+
+abbrev log_1_0 : List Step
+log_1_0 =
+    Begin 1 0 ∷ (
+    ReadStep (record { client = 1; seq = 1 }) 0 ∷ (
+    Key (record { replica = 0; key = 0; act = Get }) (Version (record { time = 0; client = 0 }) (Number 0)) ∷ (
+    Stamp (record { client = 1; seq = 1 }) 10 (record { key = 0; value = Number 5 } ∷ []) ∷ (
+    Validate (record { client = 1; seq = 1 }) ∷ (
+    Take 1 ∷ (
+    Key (record { replica = 0; key = 0; act = CheckRead (record { time = 10; client = 1 }) (record { time = 0; client = 0 }) }) Okay ∷ (
+    Key (record { replica = 0; key = 0; act = CheckWrite (record { time = 10; client = 1 }) }) Okay ∷ (
+    Take 4 ∷ (
+    Take 2 ∷ (
+    Key (record { replica = 1; key = 0; act = CheckRead (record { time = 10; client = 1 }) (record { time = 0; client = 0 }) }) Okay ∷ (
+    Key (record { replica = 1; key = 0; act = CheckWrite (record { time = 10; client = 1 }) }) Okay ∷ (
+    Take 5 ∷ (
+    Take 3 ∷ (
+    Key (record { replica = 2; key = 0; act = CheckRead (record { time = 10; client = 1 }) (record { time = 0; client = 0 }) }) Okay ∷ (
+    Key (record { replica = 2; key = 0; act = CheckWrite (record { time = 10; client = 1 }) }) Okay ∷ (
+    Take 6 ∷ (
+    Rule (record { client = 1; seq = 1 }) ∷ (
+    Take 7 ∷ (
+    Key (record { replica = 0; key = 0; act = CommitRead (record { time = 10; client = 1 }) }) Done ∷ (
+    Key (record { replica = 0; key = 0; act = CommitWrite (record { time = 10; client = 1 }) (Number 5) }) Done ∷ (
+    Take 8 ∷ (
+    Key (record { replica = 1; key = 0; act = CommitRead (record { time = 10; client = 1 }) }) Done ∷ (
+    Key (record { replica = 1; key = 0; act = CommitWrite (record { time = 10; client = 1 }) (Number 5) }) Done ∷ (
+    Take 9 ∷ (
+    Key (record { replica = 2; key = 0; act = CommitRead (record { time = 10; client = 1 }) }) Done ∷ (
+    Key (record { replica = 2; key = 0; act = CommitWrite (record { time = 10; client = 1 }) (Number 5) }) Done ∷ []))))))))))))))))))))))))))
+
+abbrev log_1_1 : List Step
+log_1_1 =
+    Begin 2 1 ∷ (
+    ReadStep (record { client = 2; seq = 1 }) 1 ∷ (
+    Key (record { replica = 1; key = 1; act = Get }) (Version (record { time = 0; client = 0 }) (Number 0)) ∷ (
+    Stamp (record { client = 2; seq = 1 }) 10 (record { key = 1; value = Number 7 } ∷ []) ∷ (
+    Validate (record { client = 2; seq = 1 }) ∷ (
+    Take 1 ∷ (
+    Key (record { replica = 0; key = 1; act = CheckRead (record { time = 10; client = 2 }) (record { time = 0; client = 0 }) }) Okay ∷ (
+    Key (record { replica = 0; key = 1; act = CheckWrite (record { time = 10; client = 2 }) }) Okay ∷ (
+    Take 4 ∷ (
+    Take 2 ∷ (
+    Key (record { replica = 1; key = 1; act = CheckRead (record { time = 10; client = 2 }) (record { time = 0; client = 0 }) }) Okay ∷ (
+    Key (record { replica = 1; key = 1; act = CheckWrite (record { time = 10; client = 2 }) }) Okay ∷ (
+    Take 5 ∷ (
+    Take 3 ∷ (
+    Key (record { replica = 2; key = 1; act = CheckRead (record { time = 10; client = 2 }) (record { time = 0; client = 0 }) }) Okay ∷ (
+    Key (record { replica = 2; key = 1; act = CheckWrite (record { time = 10; client = 2 }) }) Okay ∷ (
+    Take 6 ∷ (
+    Rule (record { client = 2; seq = 1 }) ∷ (
+    Take 7 ∷ (
+    Key (record { replica = 0; key = 1; act = CommitRead (record { time = 10; client = 2 }) }) Done ∷ (
+    Key (record { replica = 0; key = 1; act = CommitWrite (record { time = 10; client = 2 }) (Number 7) }) Done ∷ (
+    Take 8 ∷ (
+    Key (record { replica = 1; key = 1; act = CommitRead (record { time = 10; client = 2 }) }) Done ∷ (
+    Key (record { replica = 1; key = 1; act = CommitWrite (record { time = 10; client = 2 }) (Number 7) }) Done ∷ (
+    Take 9 ∷ (
+    Key (record { replica = 2; key = 1; act = CommitRead (record { time = 10; client = 2 }) }) Done ∷ (
+    Key (record { replica = 2; key = 1; act = CommitWrite (record { time = 10; client = 2 }) (Number 7) }) Done ∷ []))))))))))))))))))))))))))
+
+abbrev globals_1 : List GlobalEntry
+globals_1 = []
+
+abbrev round_1 : RoundLog
+round_1 = record { logs = log_1_0 ∷ (log_1_1 ∷ []); journals = []; globals = globals_1 }
+
+abbrev run : History
+run = run_of script 2 (round_1 ∷ [])
+
+pub driven : named_in script run ≡ expected_in run
+driven = refl
+
+pub is_driven : IsDriven script run
+is_driven = driven_run script run driven (refl, tt) refl refl refl refl refl refl refl
