@@ -1,0 +1,5 @@
+//! Epoch changes by the code, held against the laws of epoch changes.
+#![tactic(auto)]
+
+#[cfg(test)]
+mod tests;

@@ -1,0 +1,2 @@
+-- Transactions and promises of worked rows.
+pub mod Rows

@@ -1,0 +1,4 @@
+//! Worked rows through both keepings of bases.
+mod building;
+mod fitting;
+mod rows;
