@@ -38,7 +38,7 @@ shaped =
       );
     }
 
-abbrev pub after_first : WholeState
+abbrev after_first : WholeState
 after_first = after_round life first_round (first_state life)
 
 legal : IsLegal life
@@ -53,9 +53,6 @@ legal = (
     ),
   ),
 )
-
-abbrev pub after_second : WholeState
-after_second = after_round life second_round after_first
 
 pub is_whole_life : LegalRunsAreSafe → IsWholeLife
 is_whole_life safe =

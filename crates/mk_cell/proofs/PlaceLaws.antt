@@ -5,6 +5,7 @@ use Rattle.mk_txn.specs.declared.Stamp.{Stamp}
 use Rattle.mk_txn.specs.Stamps.{is_before, same_stamp}
 use Rattle.mk_txn.proofs.StampOrder.{same_stamp-tells, is_before-itself, is_before-through, is_before-not_back}
 use Rattle.mk_lists.specs.Among.{Each}
+use Rattle.mk_words.proofs.PendingLaws.{below-through}
 use Rattle.mk_words.specs.Pending.{joined, without, has_stamp, IsAscending, least_below, least_above}
 use Rattle.mk_cell.specs.Searching.{place_above}
 
@@ -57,16 +58,12 @@ none_has : (s : Stamp) (xs : List Stamp) → Each (λ y. is_before s y ≡ true)
 none_has s [] h = refl
 none_has s (y ∷ ys) h = grind (arith, none_has s ys h.1, same_stamp-tells y s, is_before-itself s, h.0)
 
-later_too : (s x : Stamp) (xs : List Stamp) → is_before s x ≡ true → Each (λ y. is_before x y ≡ true) xs → Each (λ y. is_before s y ≡ true) xs
-later_too s x [] b h = tt
-later_too s x (y ∷ ys) b h = (is_before-through s x y b h.0, later_too s x ys b h.1)
-
 pub has_stamp-nowhere : (s : Stamp) (xs : List Stamp) → IsAscending xs → place_above s xs ≡ 0 → has_stamp s xs ≡ false
 has_stamp-nowhere s [] h e = refl
 has_stamp-nowhere s (x ∷ xs) h e = by (is_before s x) refl
   where
     by : (b : Bool) → is_before s x ≡ b → has_stamp s (x ∷ xs) ≡ false
-    by true b = none_has s (x ∷ xs) (b, later_too s x xs b h.0)
+    by true b = none_has s (x ∷ xs) (b, below-through s x xs b h.0)
     by false b = absurd (grind (arith, e, b))
 
 place_above-first : (s x : Stamp) (xs : List Stamp) → same_stamp x s ≡ true → Each (λ y. is_before x y ≡ true) xs → place_above s xs ≡ 0
@@ -81,7 +78,7 @@ has_stamp-here s x (y ∷ ys) (suc k) h p e = grind (arith, p, e, has_stamp-here
 -- what joining and leaving do, by places
 pub joined-there : (s : Stamp) (xs : List Stamp) → IsAscending xs → has_stamp s xs ≡ true → joined s xs ≡ xs
 joined-there s [] h e = absurd (cc e)
-joined-there s (x ∷ xs) h e = grind (arith, joined-there s xs h.1, e, same_stamp-tells x s, is_before-itself s, is_before-not_back s x, none_has s xs, later_too s x xs)
+joined-there s (x ∷ xs) h e = grind (arith, joined-there s xs h.1, e, same_stamp-tells x s, is_before-itself s, is_before-not_back s x, none_has s xs, below-through s x xs)
 
 pub joined-new : (s : Stamp) (xs : List Stamp) → has_stamp s xs ≡ false → joined s xs ≡ insert xs (place_above s xs) s
 joined-new s [] e = refl

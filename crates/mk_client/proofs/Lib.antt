@@ -1,5 +1,4 @@
 -- Lemmas on what an attempt reads and writes.
 pub mod PutLaws
-pub mod DistinctKeys
 pub mod ReadOrder
 pub mod BufferLaws

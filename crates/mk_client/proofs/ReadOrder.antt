@@ -7,7 +7,7 @@ use Rattle.mk_txn.specs.declared.ReadItem.{ReadItem}
 use Rattle.mk_txn.specs.Transactions.{read_keys}
 use Rattle.mk_proc.specs.declared.Item.{Item}
 use Rattle.mk_client.specs.Wanted.{wanted_keys}
-use Rattle.mk_client.proofs.DistinctKeys.{length-wanted_keys}
+use Rattle.mk_client.specs.DistinctKeys.{length-wanted_keys}
 
 take-next : (keys : List ℕ) (n key : ℕ) → slice_get keys n ≡ Some key → take (n + 1) keys ≡ take n keys ++ key ∷ []
 take-next keys n key e =

@@ -1,5 +1,5 @@
 -- What a column keeps when a key call is answered or a replica takes a message.
-use Rattle.std.proofs.Common.{◌≡◌, ◌<◌, ℕ, zero, suc, Bool, true, false, refl, sym, subst, ap, ◌∙◌, List, [], ◌∷◌, ◌++◌, Option, Some, None, ◌||◌, length, get_or, arith}
+use Rattle.std.proofs.Common.{◌≡◌, ◌<◌, ℕ, zero, suc, true, false, refl, sym, subst, ap, ◌∙◌, List, [], ◌∷◌, ◌++◌, Option, Some, None, ◌||◌, length, get_or, arith}
 use Rattle.std.specs.Prelude.{find, map, option_map, slice_set, slice_index_or, IsSomeAnd}
 use Rattle.std.specs.List.{list_any}
 use Rattle.std.proofs.lemmas.List.{map-set, append-nil}
@@ -7,6 +7,7 @@ use Rattle.std.proofs.lemmas.List.Folds.{list_any-append}
 use Rattle.std.proofs.Math.Seq.{map-set_same}
 use Rattle.std.proofs.lemmas.Bool.{false≢true}
 use Rattle.std.proofs.lemmas.Option.{same_Some, none-some}
+use Rattle.std.proofs.Math.Bool.{or-false}
 use Rattle.mk_lists.specs.Among.{Each, Each-append, Each-weaker}
 use Rattle.mk_txn.specs.declared.TxnId.{TxnId}
 use Rattle.mk_txn.specs.declared.ReadItem.{ReadItem}
@@ -68,15 +69,11 @@ pub IsKept-read : (f : ℕ) (id : TxnId) (item : ReadItem) (kept : Kept) (ends :
 IsKept-read f id item kept ends attempts is h =
     IsKept-changed f id _ (record kept { work = KeptIdle }) ends attempts (read-gentle item) (λ b. refl) tt is (IsKept-idle f kept ends h)
 
-or_false : (b : Bool) → b ≡ (b || false)
-or_false true = refl
-or_false false = refl
-
 -- messages other than Validates leave whether a Validate was sent
 pub none_validates : (id : TxnId) (link sent : List Msg) → list_any (is_validate_of id) sent ≡ false
     → list_any (is_validate_of id) link ≡ list_any (is_validate_of id) (link ++ sent)
 none_validates id link sent e =
-    or_false (list_any (is_validate_of id) link) ∙ ap (λ b. list_any (is_validate_of id) link || b) (sym e)
+    sym (or-false (list_any (is_validate_of id) link)) ∙ ap (λ b. list_any (is_validate_of id) link || b) (sym e)
     ∙ sym (list_any-append (is_validate_of id) link sent)
 
 -- a column keeps what it keeps when a replica changes and answers

@@ -9,10 +9,10 @@ use Rattle.std.proofs.lemmas.List.Folds.{find-append}
 use Rattle.std.proofs.lemmas.Bool.{false≢true}
 use Rattle.std.proofs.lemmas.Bool.Decides.{nat_tests}
 use Rattle.std.proofs.lemmas.Option.{none-some}
+use Rattle.std.proofs.Math.Bool.{or_assoc}
 use Rattle.mk_lists.specs.Among.{Each, Each-append, Each-weaker}
 use Rattle.mk_column.specs.TakeoversByCode.{BackupView}
 use Rattle.mk_lists.specs.Changed.{change}
-use Rattle.mk_lists.proofs.Lookups.{find-passes}
 use Rattle.mk_lists.proofs.EachMember.{Each-find}
 use Rattle.mk_txn.specs.declared.TxnId.{TxnId}
 use Rattle.mk_txn.specs.Transactions.{same_id}
@@ -32,7 +32,7 @@ use Rattle.mk_words.specs.declared.Step.TheVariants.{Begin, Unread}
 use Rattle.mk_model.specs.Steps.{begun, new_attempt, unread_attempt, epoch_of, on_some, beginning, left_unread, stepped, column_after}
 use Rattle.mk_column.specs.AttemptsByCode.{BegunView, as_begun, is_begun, begun_of}
 use Rattle.mk_column.specs.ColumnByCode.{Kept, IsKept, AttemptFits, ClientFits, MayRead, WorkFits, has_reading, learning_of_kept, column_of}
-use Rattle.mk_column.proofs.ColumnLaws.{client-found, may_begin-found, may_begin-none}
+use Rattle.mk_column.proofs.ColumnLaws.{client-number, client-found, may_begin-found, may_begin-none}
 use Rattle.mk_column.proofs.ListLaws.{Each-turn, find-change, map-change, changed_member}
 
 -- an attempt that begins as the client's next
@@ -46,9 +46,6 @@ pub record IsNext (f : ℕ) (client : Client) (new : BegunView) : Type 0 where
 -- the same attempts are settled, and the new one where it is
 abbrev pub SettlesNext : SettledAttempts → SettledAttempts → BegunView → Type 0
 SettlesNext old new begun = (id : TxnId) → is_kept_settled new id ≡ (is_kept_settled old id || (is_settled begun.state && same_id id begun.state.id))
-
-of_number : (n : ℕ) (all : List Client) (client : Client) → kept_client n all ≡ Some client → client.number ≡ n
-of_number n all client found = grind (arith, nat_tests, find-passes (λ (c : Client). c.number == n) all client found)
 
 -- an attempt at the client's next place has not begun
 pub next-none : (client : Client) (all : List BegunView) → Each (λ (b : BegunView). b.state.id.client ≡ client.number → b.state.id.seq < client.next_seq) all
@@ -116,10 +113,6 @@ settled-append id all new none = ap (passes (λ (b : BegunView). is_settled b.st
         at_other (begun_of id all)
         ∙ ap (λ t. passes (λ (b : BegunView). is_settled b.state) (begun_of id all) || (is_settled new.state && t)) (sym (with_other false e))
 
-or_again : (a b t : Bool) → (a || (b || t)) ≡ ((a || b) || t)
-or_again true b t = refl
-or_again false b t = refl
-
 reading-append : (n : ℕ) (all : List BegunView) (new : BegunView)
     → has_reading n (all ++ new ∷ []) ≡ (has_reading n all || (new.state.reading && new.state.id.client == n))
 reading-append n [] new = or_off (new.state.reading && new.state.id.client == n)
@@ -129,7 +122,7 @@ reading-append n [] new = or_off (new.state.reading && new.state.id.client == n)
     or_off false = refl
 reading-append n (b ∷ all) new =
     ap (λ t. (b.state.reading && b.state.id.client == n) || t) (reading-append n all new)
-    ∙ or_again (b.state.reading && b.state.id.client == n) (has_reading n all) (new.state.reading && new.state.id.client == n)
+    ∙ sym (or_assoc (b.state.reading && b.state.id.client == n) (has_reading n all) (new.state.reading && new.state.id.client == n))
 
 -- ---- what each attempt and each client keeps
 
@@ -370,7 +363,7 @@ begin-there n kept e = by_found (kept_client n kept.clients) refl
 pub begin-facts : (f : ℕ) (kept : Kept) (ends : SettledAttempts) (n : ℕ) (client : Client) → IsKept f kept ends → may_begin (column_of kept) n ≡ true
     → has_seq_left (column_of kept) n ≡ true → kept_client n kept.clients ≡ Some client → MayBegin kept n client
 begin-facts f kept ends n client h may left found =
-    let is : client.number ≡ n = of_number n kept.clients client found in
+    let is : client.number ≡ n = client-number n kept.clients client found in
     let there : client_of (column_of kept) n ≡ Some (client_state client) = client-found n kept.clients ∙ ap (option_map client_state) found in
     let not_reads : not client.reading ≡ true = sym (may_begin-found n (column_of kept) kept.clients kept.attempts client refl refl h.clients found) ∙ may in
     let seq : nat_le client.next_seq 16384 ≡ true = sym (ap (passes (λ (c : ClientState). nat_le c.next_seq 16384)) there) ∙ left in

@@ -1,10 +1,9 @@
 -- What the tables of a column tell of its state.
-use Rattle.std.proofs.Common.{◌≡◌, ℕ, Bool, true, false, cond, refl, sym, subst, ap, ◌∙◌, ◌||◌, ◌&&◌, ◌==◌, not, arith, List, [], ◌∷◌, Some, None}
+use Rattle.std.proofs.Common.{◌≡◌, ℕ, false, refl, sym, ap, ◌∙◌, ◌&&◌, ◌==◌, not, arith, List, [], Some, None}
 use Rattle.std.specs.Prelude.{find, map, option_map, is_some, slice_set}
 use Rattle.std.specs.List.{list_any}
 use Rattle.std.proofs.lemmas.Bool.Decides.{nat_tests}
 use Rattle.std.proofs.lemmas.List.{map-set}
-use Rattle.std.proofs.lemmas.Option.{none-some, same_Some}
 use Rattle.mk_lists.specs.Among.{Each}
 use Rattle.mk_lists.proofs.Lookups.{find-map, find-passes}
 use Rattle.mk_lists.proofs.EachMember.{Each-find}
@@ -73,6 +72,10 @@ validated-found f link learned id all begun h found =
     (Each-find (AttemptFits f link learned) (is_begun id) all begun h found).validated
     ∙ ap (λ n. list_any (is_validate_of n) link) (same_id-tells begun.state.id id (find-passes (is_begun id) all begun found))
 
+-- a client that is found has the number that was asked for
+pub client-number : (n : ℕ) (all : List Client) (client : Client) → kept_client n all ≡ Some client → client.number ≡ n
+client-number n all client found = grind (arith, nat_tests, find-passes (λ (c : Client). c.number == n) all client found)
+
 pub client-found : (number : ℕ) (all : List Client) → find (is_client number) (client_states all) ≡ option_map client_state (kept_client number all)
 client-found number all = find-map (is_client number) client_state all
 
@@ -83,9 +86,8 @@ pub may_begin-found : (number : ℕ) (column : ColumnState) (clients : List Clie
 may_begin-found number column clients attempts client is_clients is_attempts h found =
     let here : find (is_client number) column.clients ≡ Some (client_state client) =
     ap (find (is_client number)) is_clients ∙ client-found number clients ∙ ap (option_map client_state) found in
-    let of_number : client.number ≡ number = grind (arith, nat_tests, find-passes (λ (c : Client). c.number == number) clients client found) in
     let reads : client.reading ≡ has_reading number attempts =
-    (Each-find (ClientFits attempts) (λ c. c.number == number) clients client h found).reading ∙ ap (λ n. has_reading n attempts) of_number in
+    (Each-find (ClientFits attempts) (λ c. c.number == number) clients client h found).reading ∙ ap (λ n. has_reading n attempts) (client-number number clients client found) in
     let any : list_any (λ a. a.reading && a.id.client == number) column.attempts ≡ client.reading =
     ap (list_any (λ (a : AttemptState). a.reading && a.id.client == number)) is_attempts
     ∙ list_any-map (λ (a : AttemptState). a.reading && a.id.client == number) (λ (b : BegunView). b.state) attempts ∙ sym reads in

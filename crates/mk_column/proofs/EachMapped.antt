@@ -1,7 +1,6 @@
 -- Lists each of whose members is changed, one after another.
-use Rattle.std.proofs.Common.{◌≡◌, ℕ, zero, suc, ◌+◌, ◌<◌, refl, sym, subst, ap, ◌∙◌, add-one, List, [], ◌∷◌, ◌++◌, length, get_or, take, arith}
+use Rattle.std.proofs.Common.{◌≡◌, ℕ, zero, suc, ◌+◌, refl, sym, subst, ap, ◌∙◌, add-one, List, [], ◌∷◌, length, get_or}
 use Rattle.std.specs.Prelude.{map, slice_set, replicate}
-use Rattle.mk_lists.specs.Among.{Each}
 
 -- a list whose first members are changed, so many
 abbrev pub first_mapped : {X : Type 0} → (X → X) → ℕ → List X → List X

@@ -1,8 +1,9 @@
 -- Clients of different numbers that have begun nothing.
-use Rattle.std.proofs.Common.{◌≡◌, ℕ, zero, suc, ◌<◌, Bool, true, false, cond, refl, sym, subst, ap, ◌∙◌, arith, List, [], ◌∷◌, length, get_or, take, Some, None, inl, inr, ◌==◌}
-use Rattle.std.specs.Prelude.{map, replicate, ◌||◌}
+use Rattle.std.proofs.Common.{◌≡◌, ℕ, zero, suc, ◌<◌, Bool, true, false, cond, refl, sym, subst, ap, ◌∙◌, arith, List, [], ◌∷◌, length, get_or, take, Some, None, ◌==◌}
+use Rattle.std.specs.Prelude.{map, replicate}
 use Rattle.std.proofs.lemmas.List.{length-replicate}
 use Rattle.std.proofs.lemmas.Bool.Decides.{nat_tests}
+use Rattle.std.proofs.Math.Bool.{or-false}
 use Rattle.mk_lists.specs.Among.{Among, AllDistinct, Each}
 use Rattle.mk_lists.proofs.Members.{Among-get_or}
 use Rattle.mk_column.specs.declared.clients.Client.{Client}
@@ -76,10 +77,6 @@ start-view number version f keys numbers views clients attempts takeovers replic
       log = e7 i;
     }
 
-or_false : (b : Bool) → b ≡ (b || false)
-or_false true = refl
-or_false false = refl
-
 -- and what it keeps
 pub start-kept : (f : ℕ) (numbers : List ℕ) (ends : SettledAttempts) (clients : List Client) (attempts : List BegunView) (takeovers : List BackupView)
     (replicas : List Held) (link : List Msg) (learned : List Learned)
@@ -93,7 +90,7 @@ start-kept f numbers ends clients attempts takeovers replicas link learned e1 e2
       takeovers = tt;
       clients = fresh-fit numbers;
       sent = tt;
-      settled = λ id. s id ∙ or_false (id.seq == 0);
+      settled = λ id. s id ∙ sym (or-false (id.seq == 0));
       decisions = λ id none. refl;
       validates = λ id none. refl;
       homes = tt;

@@ -1,5 +1,5 @@
 -- What of a column stays.
-use Rattle.std.proofs.Common.{◌≡◌, ◌<◌, ◌≤◌, ◌⊎◌, ◌==◌, ℕ, Bool, true, false, cond, refl, sym, subst, ap, ◌∙◌, inl, inr, arith, List, [], Option, Some, None}
+use Rattle.std.proofs.Common.{◌≡◌, ◌<◌, ◌≤◌, ◌==◌, ℕ, Bool, true, false, cond, refl, sym, subst, ap, ◌∙◌, inl, inr, arith, List, [], Option, Some, None}
 use Rattle.std.specs.Prelude.{find, map, option_map, option_and_then, IsSomeAnd}
 use Rattle.std.proofs.lemmas.Option.{none-some, same_Some}
 use Rattle.std.proofs.lemmas.Bool.Decides.{nat_tests}

@@ -3,6 +3,7 @@ use Rattle.std.proofs.Common.{◌≡◌, ◌<◌, ◌≤◌, ◌^◌, ℕ, Bool,
 use Rattle.std.specs.Prelude.{map, option_map, option_and_then, IsSomeAnd, nat_lt, slice_get, ◌==◌}
 use Rattle.std.proofs.lemmas.Option.{none-some, same_Some}
 use Rattle.mk_lists.proofs.EachMember.{Each-find}
+use Rattle.mk_model.proofs.Parts.{attempt_of-id}
 use Rattle.mk_txn.specs.declared.TxnId.{TxnId}
 use Rattle.mk_txn.specs.declared.Stamp.{Stamp as StampType}
 use Rattle.mk_txn.specs.declared.ReadItem.{ReadItem}
@@ -26,7 +27,6 @@ use Rattle.mk_column.specs.Growing.{HasGrown, ReadsUnstamped, last_stamp}
 use Rattle.mk_model.proofs.Frames.{enabled}
 use Rattle.mk_column.proofs.ListLaws.{find-change, map-kept, changed_member}
 use Rattle.mk_column.proofs.ColumnLaws.{attempt-found}
-use Rattle.mk_column.proofs.StepLaws.{attempt-named}
 use Rattle.mk_column.proofs.GrownLaws.{calm-grown, changed-lasts}
 use Rattle.mk_column.proofs.QuietSteps.{IsQuiet, quiet-calm, same-quiet, some-quiet, attempt-quiet, begin-quiet, unread-quiet, taken-quiet, answered-quiet, ruled-quiet, again-quiet, picking-quiet}
 
@@ -75,7 +75,7 @@ module _ (column : ColumnState) (id : TxnId) (writes : List WriteItem) (attempt 
 
   -- another attempt's number that is this one's
   same-one : (q : TxnId) (b : AttemptState) → attempt_of column q ≡ Some b → is_attempt id b ≡ true → q ≡ id
-  same-one q b was here = sym (attempt-named column q b was) ∙ same_id-tells b.id id here
+  same-one q b was here = sym (attempt_of-id column q b was) ∙ same_id-tells b.id id here
 
   -- this attempt had no transaction
   had-none : (q : TxnId) (b : AttemptState) → attempt_of column q ≡ Some b → is_attempt id b ≡ true → b.txn ≡ None
@@ -164,7 +164,7 @@ stamp-grown before log id clock writes reads unstamped = by_attempt (attempt_of 
     by_attempt (Some a) found e =
         subst
         (λ (i : TxnId). Grows before log (on_some (λ (c : ClientState) (col : ColumnState). stamped i writes (next_stamp_of c.number c.last_time clock a.reads) col) (client_of before.state i.client) before.state))
-        (sym (attempt-named before.state id a found)) (by_client a (client_of before.state id.client) found (unstamped id a found e) refl)
+        (sym (attempt_of-id before.state id a found)) (by_client a (client_of before.state id.client) found (unstamped id a found e) refl)
 
 pub step-grown : (before : ColumnView) (log : List Step) (step : Step) → blocked before.setting before.state step ≡ None → ReadsUnstamped before.state
     → HasGrown before (record before { state = column_after before.setting before.state step; log = log })

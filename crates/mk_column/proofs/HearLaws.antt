@@ -1,10 +1,9 @@
 -- What a column keeps when an own coordinator takes an answer.
 use Rattle.std.proofs.Common.{◌≡◌, ◌<◌, ℕ, Bool, true, false, cond, refl, sym, subst, ap, ◌∙◌, List, [], ◌∷◌, ◌++◌, Option, Some, None, ◌&&◌, ◌==◌}
-use Rattle.std.specs.Prelude.{find, option_map, not, Result, Ok, Err, OnOk, IsSome, IsSomeAnd, if◌then◌else◌}
+use Rattle.std.specs.Prelude.{option_map, not, Result, Ok, Err, OnOk, IsSome, IsSomeAnd, if◌then◌else◌}
 use Rattle.std.specs.Option.{option_or}
 use Rattle.std.proofs.lemmas.Bool.{false≢true}
 use Rattle.std.proofs.lemmas.List.{append-nil}
-use Rattle.std.proofs.lemmas.Option.{none-some}
 use Rattle.mk_lists.specs.Among.{Each, Each-weaker}
 use Rattle.mk_lists.specs.Changed.{change}
 use Rattle.mk_lists.proofs.EachMember.{Each-find}

@@ -6,6 +6,7 @@ use Rattle.std.specs.List.{list_any}
 use Rattle.std.proofs.lemmas.Bool.{false≢true}
 use Rattle.std.proofs.lemmas.List.Folds.{list_any-append, find-append}
 use Rattle.std.proofs.Math.Bool.{or_assoc}
+use Rattle.std.proofs.Math.Bool.{or-false, or-true}
 use Rattle.mk_lists.specs.Among.{Each, Each-append, Each-weaker}
 use Rattle.mk_lists.specs.Changed.{Each-change}
 use Rattle.mk_lists.proofs.Lookups.{find-passes}
@@ -44,14 +45,6 @@ quiet-append : (link msgs : List Msg) (q : TxnId) (b : Bool) → list_any (is_va
     → list_any (is_validate_of q) (link ++ msgs) ≡ (list_any (is_validate_of q) link || b)
 quiet-append link msgs q b e = list_any-append (is_validate_of q) link msgs ∙ ap (λ t. list_any (is_validate_of q) link || t) e
 
-or_false : (b : Bool) → (b || false) ≡ b
-or_false true = refl
-or_false false = refl
-
-or_true : (b : Bool) → (b || true) ≡ true
-or_true true = refl
-or_true false = refl
-
 pub IsKept-sends : (f : ℕ) (kept : Kept) (ends : SettledAttempts) (link msgs : List Msg) → link ≡ kept.link ++ msgs → IsQuiet msgs
     → Each (λ (msg : Msg). msg.replica < members f) msgs → IsKept f kept ends → IsKept f (record kept { link = link }) ends
 IsKept-sends f kept ends link msgs is quiet there h =
@@ -73,7 +66,7 @@ IsKept-sends f kept ends link msgs is quiet there h =
     })
   where
     same : (q : TxnId) → list_any (is_validate_of q) (kept.link ++ msgs) ≡ list_any (is_validate_of q) kept.link
-    same q = quiet-append kept.link msgs q false (quiet q) ∙ or_false (list_any (is_validate_of q) kept.link)
+    same q = quiet-append kept.link msgs q false (quiet q) ∙ or-false (list_any (is_validate_of q) kept.link)
 
     fits_more : (b : BegunView) → AttemptFits f kept.link (map learning_of_kept kept.learned) b
         → AttemptFits f (kept.link ++ msgs) (map learning_of_kept kept.learned) b
@@ -108,14 +101,14 @@ pub IsKept-validates : (f : ℕ) (id : TxnId) (kept : Kept) (ends : SettledAttem
 IsKept-validates f id kept ends attempts link msgs is sends heard others there known h =
     let learned = map learning_of_kept kept.learned in
     let apart : (q : TxnId) → same_id id q ≡ false → list_any (is_validate_of q) (kept.link ++ msgs) ≡ list_any (is_validate_of q) kept.link =
-    λ q e. quiet-append kept.link msgs q false (others q e) ∙ or_false (list_any (is_validate_of q) kept.link) in
+    λ q e. quiet-append kept.link msgs q false (others q e) ∙ or-false (list_any (is_validate_of q) kept.link) in
     let here : (b : BegunView) → is_begun id b ≡ true → AttemptFits f kept.link learned b → AttemptFits f (kept.link ++ msgs) learned
     (record b { validated = true }) =
     λ b e fits. record {
       faults = fits.faults;
       validated =
           sym
-          (ap (λ i. list_any (is_validate_of i) (kept.link ++ msgs)) (same_id-tells b.state.id id e) ∙ quiet-append kept.link msgs id true heard ∙ or_true (list_any (is_validate_of id) kept.link));
+          (ap (λ i. list_any (is_validate_of i) (kept.link ++ msgs)) (same_id-tells b.state.id id e) ∙ quiet-append kept.link msgs id true heard ∙ or-true (list_any (is_validate_of id) kept.link));
       decided = fits.decided;
       named = fits.named;
       acts = fits.acts;
@@ -198,7 +191,7 @@ taught-gentle outcome =
 
 -- an attempt that has learned is settled
 taught-settled : (outcome : Outcome) (a : AttemptState) → is_settled (taught outcome a) ≡ true
-taught-settled outcome a = by_learned a.coord.learned ∙ or_true a.unread
+taught-settled outcome a = by_learned a.coord.learned ∙ or-true a.unread
   where
     by_learned : (o : Option Outcome) → (a.unread || is_some (option_or o (Some outcome))) ≡ (a.unread || true)
     by_learned None = refl
@@ -215,8 +208,8 @@ settles-found id outcome all q known =
     turned b = changed_member (is_begun id) (on_state (taught outcome)) b
 
     here : (b : BegunView) (t : Bool) → is_begun id b ≡ t → is_settled (turned b).state ≡ (is_settled b.state || t)
-    here b true e = ap (λ t. is_settled (cond t (on_state (taught outcome) b) b).state) e ∙ taught-settled outcome b.state ∙ sym (or_true (is_settled b.state))
-    here b false e = ap (λ t. is_settled (cond t (on_state (taught outcome) b) b).state) e ∙ sym (or_false (is_settled b.state))
+    here b true e = ap (λ t. is_settled (cond t (on_state (taught outcome) b) b).state) e ∙ taught-settled outcome b.state ∙ sym (or-true (is_settled b.state))
+    here b false e = ap (λ t. is_settled (cond t (on_state (taught outcome) b) b).state) e ∙ sym (or-false (is_settled b.state))
 
     by_found : (o : Option BegunView) → begun_of q all ≡ o
         → passes (λ (b : BegunView). is_settled b.state) (option_map turned o) ≡ (passes (λ (b : BegunView). is_settled b.state) o || same_id id q)

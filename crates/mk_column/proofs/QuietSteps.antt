@@ -4,6 +4,7 @@ use Rattle.std.specs.Prelude.{find, map, option_map, IsSomeAnd, if◌then◌else
 use Rattle.std.specs.Option.{option_or}
 use Rattle.std.proofs.lemmas.Option.{none-some, same_Some}
 use Rattle.std.proofs.lemmas.List.Folds.{find-append}
+use Rattle.mk_model.proofs.Parts.{heard_of-number}
 use Rattle.mk_txn.specs.declared.TxnId.{TxnId}
 use Rattle.mk_txn.specs.declared.Outcome.{Outcome}
 use Rattle.mk_txn.specs.Transactions.{Transaction, same_id}
@@ -163,16 +164,6 @@ unread-quiet round c column =
     after-quiet column heard (left_unread round c column) (client-quiet c.number (begun 0) column (λ x. refl) (λ x. refl))
     (joined-quiet (unread_attempt round.faults (next_id c)) heard refl)
 
-heard-number : (body : Body) (c : ClientState) → (heard_of body c).number ≡ c.number
-heard-number (ValidateBody mark) c = refl
-heard-number (Voted vote) c = refl
-heard-number (Accept outcome) c = refl
-heard-number AcceptedBody c = refl
-heard-number (Decide outcome) c = refl
-heard-number Ask c = refl
-heard-number (ToldBody told) c = refl
-heard-number (MovedBody moved) c = refl
-
 heard-last : (body : Body) (c : ClientState) → (heard_of body c).last_time ≡ c.last_time
 heard-last (ValidateBody mark) c = refl
 heard-last (Voted vote) c = refl
@@ -188,7 +179,7 @@ own-quiet msg column =
     let turned = change_attempt msg.id (attempt_answered msg.replica msg.body) column in
     let heard = change_client msg.id.client (heard_of msg.body) turned in
     if-quiet (listens (attempt_of column msg.id)) column heard column
-    (after-quiet column turned heard (attempt-quiet msg.id (attempt_answered msg.replica msg.body) column (λ a. refl) (λ a. refl)) (client-quiet msg.id.client (heard_of msg.body) turned (heard-number msg.body) (heard-last msg.body)))
+    (after-quiet column turned heard (attempt-quiet msg.id (attempt_answered msg.replica msg.body) column (λ a. refl) (λ a. refl)) (client-quiet msg.id.client (heard_of msg.body) turned (heard_of-number msg.body) (heard-last msg.body)))
     (same-quiet column column refl refl)
 
 takeover-quiet : (round : Setting) (msg : Msg) (column : ColumnState) → IsQuiet column (takeover_heard round msg column)

@@ -1,17 +1,15 @@
 -- What the answers of a record tell of the entry that a message is about.
-use Rattle.std.proofs.Common.{◌≡◌, ℕ, Bool, true, false, cond, refl, sym, ap, ◌∙◌, List, [], ◌∷◌, ◌++◌, Option, Some, None}
+use Rattle.std.proofs.Common.{◌≡◌, ℕ, Bool, true, false, cond, refl, sym, ap, ◌∙◌, List, Option, Some, None}
 use Rattle.std.specs.Prelude.{nat_lt, not, option_and_then}
-use Rattle.std.proofs.lemmas.Option.{none-some}
 use Rattle.std.proofs.lemmas.Bool.{cond-false, cond-true}
 use Rattle.mk_txn.specs.declared.TxnId.{TxnId}
 use Rattle.mk_txn.specs.declared.Outcome.{Outcome}
 use Rattle.mk_txn.specs.declared.Vote.{Vote}
 use Rattle.mk_txn.specs.Transactions.{Transaction}
-use Rattle.mk_txn.proofs.IdOrder.{same_id-itself}
 use Rattle.mk_words.specs.declared.Entry.{Entry}
 use Rattle.mk_record.specs.declared.RecordError.{RecordError}
 use Rattle.mk_record.specs.declared.RecordError.TheVariants.{OldView}
-use Rattle.mk_words.specs.Entries.{opened, is_entry_of, entry_of, with_promise, with_accepted, last_in}
+use Rattle.mk_words.specs.Entries.{entry_of, with_promise, with_accepted, last_in}
 use Rattle.mk_record.specs.Entries.{refusal_unless_final, refusal_of, refusal_in}
 use Rattle.mk_words.specs.declared.Msg.{Msg}
 use Rattle.mk_words.specs.declared.Body.{Body}
@@ -20,17 +18,6 @@ use Rattle.mk_words.specs.KeptOutcomes.{known_of}
 use Rattle.mk_trim.specs.declared.ReplicaView.{ReplicaView}
 use Rattle.mk_model.specs.Replicas.{Held, Reaction, told_of, ignored, answering, changing, marking, on_validate, validate_known, validate_unfinished, ask_known, accept_known, decide_known, entry_or_opened, with_entry, moved_reaction, reaction, reaction_by_view, is_serving}
 use Rattle.mk_column.specs.HeldByCode.{refused_with, answer_to_validate, is_decide}
-
--- an entry that is opened where there is none is found
-pub entry_of-push : (txn : Transaction) (entries : List Entry) → entry_of txn.id entries ≡ None
-    → entry_of txn.id (entries ++ opened txn ∷ []) ≡ Some (opened txn)
-entry_of-push txn [] e = ap (λ b. cond b (Some (opened txn)) None) (same_id-itself txn.id)
-entry_of-push txn (first ∷ rest) e = by_first (is_entry_of txn.id first) (entry_of-push txn rest) e
-  where
-    by_first : (b : Bool) → (entry_of txn.id rest ≡ None → entry_of txn.id (rest ++ opened txn ∷ []) ≡ Some (opened txn))
-        → cond b (Some first) (entry_of txn.id rest) ≡ None → cond b (Some first) (entry_of txn.id (rest ++ opened txn ∷ [])) ≡ Some (opened txn)
-    by_first true more e = absurd (none-some first (sym e))
-    by_first false more e = more e
 
 -- ---- what a message does, by what the record refuses
 

@@ -32,7 +32,7 @@ use Rattle.mk_model.specs.Conditions.{is_idle, stamp_exists}
 use Rattle.mk_model.specs.Steps.{on_some, stamping, stamped, stamped_txn, with_txn, with_last_time, stepped, column_after}
 use Rattle.mk_column.specs.AttemptsByCode.{BegunView, on_state, is_begun, begun_of, change_begun, states_of}
 use Rattle.mk_column.specs.ColumnByCode.{Kept, IsKept, AttemptFits, ClientFits, has_reading, learning_of_kept, column_of}
-use Rattle.mk_column.proofs.ColumnLaws.{client-found, attempt-found}
+use Rattle.mk_column.proofs.ColumnLaws.{client-number, client-found, attempt-found}
 use Rattle.mk_column.proofs.ListLaws.{Each-turn, find-change, map-change, changed_member, passes-changed, map-there}
 use Rattle.mk_column.proofs.KeptLaws.{idle-fits}
 use Rattle.mk_column.proofs.StepLaws.{begun-there, there-from_passes, states-changed}
@@ -137,9 +137,6 @@ pub record IsStamped (kept : Kept) (id : TxnId) (begun : BegunView) (client afte
   pub in_time : txn.stamp.time ≤ 2 ^ 62
   pub named : txn.id ≡ id
   pub acts : IsSome (next_act (validation_of txn))
-
-pub client-number : (n : ℕ) (all : List Client) (client : Client) → kept_client n all ≡ Some client → client.number ≡ n
-client-number n all client found = grind (arith, nat_tests, find-passes (λ (c : Client). c.number == n) all client found)
 
 clients-put : (kept : Kept) (id : TxnId) (client after : Client) (clients : List Client) (g : Client → Client)
     → kept_client id.client kept.clients ≡ Some client → after.number ≡ client.number → g client ≡ after → Puts kept.clients clients after

@@ -1,12 +1,12 @@
 -- What a step makes of the tables of a column.
-use Rattle.std.proofs.Common.{◌≡◌, ℕ, Bool, true, ◌&&◌, refl, sym, ap, subst, ◌∙◌, List, [], ◌++◌, Option, Some, None, IsSome}
-use Rattle.std.specs.Prelude.{find, is_some, is_none, option_map, IsSomeAnd}
+use Rattle.std.proofs.Common.{◌≡◌, ℕ, Bool, true, refl, sym, ap, subst, ◌∙◌, List, [], ◌++◌, Option, Some, None, IsSome}
+use Rattle.std.specs.Prelude.{find, option_map, IsSomeAnd}
 use Rattle.std.specs.Option.{option_or}
 use Rattle.std.proofs.lemmas.List.{append-nil}
 use Rattle.mk_lists.specs.Among.{Each}
 use Rattle.mk_lists.specs.Changed.{change}
-use Rattle.mk_lists.proofs.Lookups.{find-passes}
 use Rattle.mk_lists.proofs.EachMember.{Each-find}
+use Rattle.mk_model.proofs.Parts.{attempt_of-id}
 use Rattle.mk_words.specs.declared.Ruling.{Ruling}
 use Rattle.mk_words.specs.declared.Ruling.TheVariants.{Fast, Learned, Propose, Short, Unaccepted}
 use Rattle.mk_words.specs.Rulings.{ruling}
@@ -14,14 +14,13 @@ use Rattle.mk_words.specs.declared.Msg.{Msg}
 use Rattle.mk_txn.specs.declared.TxnId.{TxnId}
 use Rattle.std.proofs.lemmas.Option.{none-some, same_Some}
 use Rattle.mk_txn.specs.declared.Outcome.{Outcome}
-use Rattle.mk_txn.proofs.IdOrder.{same_id-tells}
-use Rattle.mk_words.specs.declared.Body.TheVariants.{Validate as ValidateBody, Accept, Decide}
+use Rattle.mk_words.specs.declared.Body.TheVariants.{Accept, Decide}
 use Rattle.mk_quorum.specs.Slots.{passes}
 use Rattle.mk_column.specs.declared.Attempt.{Attempt}
-use Rattle.mk_model.specs.ColumnState.{ColumnState, Setting, AttemptState, Learning, is_attempt, attempt_of, change_attempt, send, to_all, mark_sent}
+use Rattle.mk_model.specs.ColumnState.{ColumnState, Setting, AttemptState, Learning, is_attempt, attempt_of, change_attempt, send, to_all}
 use Rattle.mk_column.specs.ColumnState.{shown}
 use Rattle.mk_words.specs.declared.Step.{Step}
-use Rattle.mk_words.specs.declared.Step.TheVariants.{Stop, Again, Validate, Rule}
+use Rattle.mk_words.specs.declared.Step.TheVariants.{Stop, Again, Rule}
 use Rattle.mk_model.specs.ColumnState.Way.{ByVotes, ByAccepts}
 use Rattle.mk_model.specs.Learnings.{learning, by_ruling, by_rule}
 use Rattle.mk_model.specs.Steps.{column_after, on_some, sent_again, ruled, taught, proposing, with_learning}
@@ -88,10 +87,6 @@ pub stop-state : (round : Setting) (column : ColumnState) (id : TxnId) (attempts
 stop-state round column id attempts is =
     ap (λ all. record column { attempts = all }) is ∙ none-learned (change_attempt id (λ a. record a { stopped = true }) column) column.learned
 
--- an attempt that is found has the number that was asked for
-pub attempt-named : (column : ColumnState) (id : TxnId) (a : AttemptState) → attempt_of column id ≡ Some a → a.id ≡ id
-attempt-named column id a e = same_id-tells a.id id (find-passes (is_attempt id) column.attempts a e)
-
 pub again-state : (round : Setting) (column : ColumnState) (id : TxnId) (s : Attempt) (outcome : Outcome) → option_map shown (attempt_of column id) ≡ Some s
     → s.proposed ≡ Some outcome
     → send (to_all round.faults s.epoch id 0 (Accept outcome)) column ≡ column_after round column (Again id)
@@ -104,7 +99,7 @@ again-state round column id s outcome found proposed = by_found (attempt_of colu
         let is : shown a ≡ s = same_Some (shown a) s e in
         let value : Some outcome ≡ a.coord.proposed = sym (ap (λ (x : Attempt). x.proposed) is ∙ proposed) in
         ap (λ (x : Attempt). send (to_all round.faults x.epoch id 0 (Accept outcome)) column) (sym is)
-        ∙ ap (λ i. send (to_all round.faults a.epoch i 0 (Accept outcome)) column) (sym (attempt-named column id a there))
+        ∙ ap (λ i. send (to_all round.faults a.epoch i 0 (Accept outcome)) column) (sym (attempt_of-id column id a there))
         ∙ none-learned (send (to_all round.faults a.epoch a.id 0 (Accept outcome)) column) column.learned
         ∙ ap (λ o. record (on_some (λ x col. send (to_all round.faults a.epoch a.id 0 (Accept x)) col) o column) { learned = column.learned ++ [] }) value
 
@@ -150,5 +145,5 @@ rule-state round column id s r found is = by_found (attempt_of column id) refl f
     by_found (Some a) there e d =
         ap (λ (x : Attempt). ruled_by round.faults x.epoch id r column) (sym (same_Some (shown a) s e))
         ∙ ruled_by-is round.faults id a r column
-        ∙ ap (λ i. record (ruled round.faults (record a { id = i }) r column) { learned = column.learned ++ by_ruling id r }) (sym (attempt-named column id a there))
+        ∙ ap (λ i. record (ruled round.faults (record a { id = i }) r column) { learned = column.learned ++ by_ruling id r }) (sym (attempt_of-id column id a there))
         ∙ ap (λ x. record (ruled round.faults a x column) { learned = column.learned ++ by_ruling id x }) (sym (same_Some (ruling round.faults a.coord) r d))

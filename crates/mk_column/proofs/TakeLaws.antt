@@ -1,6 +1,6 @@
 -- What a column keeps when a replica takes a message.
 use Rattle.std.proofs.Common.{◌≡◌, ◌<◌, ℕ, zero, suc, Bool, true, false, refl, sym, subst, ap, ◌∙◌, List, [], ◌∷◌, ◌++◌, Option, Some, None, ◌||◌, ◌&&◌, not, length, length-set, get_or, arith, cond}
-use Rattle.std.specs.Prelude.{find, map, option_map, option_and_then, slice_get, slice_set, slice_index_or, is_some, nat_lt, nat_le, ◌-◌, option_copied, IsSome, IsSomeAnd, if◌then◌else◌}
+use Rattle.std.specs.Prelude.{find, map, option_map, option_and_then, slice_get, slice_set, slice_index_or, is_some, nat_lt, IsSome, IsSomeAnd, if◌then◌else◌}
 use Rattle.std.specs.List.{list_any}
 use Rattle.std.specs.Option.{option_or}
 use Rattle.std.proofs.lemmas.List.{map-set, map-append, append-nil, set-get_or}
@@ -19,16 +19,14 @@ use Rattle.mk_words.specs.Entries.{entry_of, opened, may_vote}
 use Rattle.mk_words.specs.declared.Msg.{Msg}
 use Rattle.mk_words.specs.declared.Body.{Body}
 use Rattle.mk_words.specs.declared.Body.TheVariants.{Validate as ValidateBody, Voted, Accept, Accepted as AcceptedBody, Decide, Ask, Told as ToldBody, Moved as MovedBody}
-use Rattle.mk_words.specs.Links.{goes_to_replica, message}
+use Rattle.mk_words.specs.Links.{goes_to_replica}
 use Rattle.mk_words.specs.Checks.{KeyAct}
 use Rattle.mk_quorum.specs.Sizes.{members}
 use Rattle.mk_trim.specs.SettledAttempts.{SettledAttempts}
 use Rattle.mk_trim.specs.declared.ReplicaView.{ReplicaView}
 use Rattle.mk_column.specs.declared.learned.Learned.{Learned}
 use Rattle.mk_column.specs.declared.learned.Way.TheVariants.{Finishing as KeptFinished}
-use Rattle.std.specs.Borrow.{Bor}
-use Rattle.std.specs.Slice.{IsItemAt}
-use Rattle.std.proofs.lemmas.Option.{none-some, same_Some, slice_get_past, slice_get_read}
+use Rattle.std.proofs.lemmas.Option.{none-some}
 use Rattle.mk_column.specs.declared.work.Work.{Work as KeptWork}
 use Rattle.mk_column.specs.declared.work.Work.TheVariants.{Idle as KeptIdle, Fetching as KeptFetching, Validating as KeptValidating, Finishing as KeptFinishing}
 use Rattle.mk_model.specs.ColumnState.{Setting, ColumnState, Learning, Work, AttemptState, is_attempt, entries_at}
@@ -36,13 +34,11 @@ use Rattle.mk_model.specs.ColumnState.Work.{Idle, Fetching, Validating, Finishin
 use Rattle.mk_model.specs.Conditions.{is_validate_of, is_idle, wanted}
 use Rattle.mk_words.specs.Validations.{next_act, validation_of}
 use Rattle.mk_column.specs.HeldByCode.{work_of, sent_of, reaction_with}
-use Rattle.mk_model.specs.Learnings.{txn_of, is_decision_of, is_final, is_finished_by, by_message, by_taken}
+use Rattle.mk_model.specs.Learnings.{txn_of, is_decision_of, is_final, is_finished_by, by_message}
 use Rattle.mk_column.specs.StepsByCode.{finished_by}
 use Rattle.mk_model.specs.Replicas.{Held, Reaction, reply, ignored, answering, entry_or_opened, with_entry, marking, reaction, reaction_by_view, moved_reaction, validate_known, validate_unfinished, ask_known, accept_known, decide_known, finishing, is_serving, serves, held_at, reacted}
-use Rattle.mk_model.specs.Steps.{on_some, replica_takes, taken, column_after}
-use Rattle.mk_column.specs.StepsByCode.{delivered, heard_taken}
-use Rattle.mk_model.specs.Answers.{answer_taken}
-use Rattle.mk_words.specs.declared.Step.TheVariants.{Take}
+use Rattle.mk_model.specs.Steps.{on_some, replica_takes}
+use Rattle.mk_column.specs.StepsByCode.{delivered}
 use Rattle.mk_column.specs.AttemptsByCode.{BegunView, begun_of, is_begun, states_of}
 use Rattle.mk_column.specs.ColumnByCode.{Kept, IsKept, AttemptFits, WorkFits, MayVoteAt, first_decision, learning_of_kept, finish_kept, column_of}
 use Rattle.mk_column.proofs.ColumnLaws.{attempt-found}
@@ -367,13 +363,4 @@ txn-acts f link learned id all txn h e = by_found (begun_of id all) refl e
     by_found None found k = absurd (none-some txn k)
     by_found (Some b) found k = (Each-find (AttemptFits f link learned) (is_begun id) all b h found).acts txn k
 
-pub item-at : {X : Type 0} (xs : List X) (place : ℕ) (got : Option (Bor X)) → IsItemAt xs place got → option_copied got ≡ slice_get xs place
-item-at xs place None h = sym (slice_get_past xs place h.3)
-item-at xs place (Some x) h = sym (slice_get_read xs (length xs) place x.now refl h.3.0 h.1)
-
 -- ---- the step
-
-Each-got : (P : Msg → Type 0) (xs : List Msg) (n : ℕ) (x : Msg) → Each P xs → slice_get xs n ≡ Some x → P x
-Each-got P [] n x h e = absurd (none-some x e)
-Each-got P (first ∷ xs) zero x h e = subst P (same_Some first x e) h.0
-Each-got P (first ∷ xs) (suc n) x h e = Each-got P xs n x h.1 e

@@ -9,6 +9,7 @@ use Rattle.mk_lists.proofs.EachMember.{Each-find}
 use Rattle.mk_lists.proofs.Lookups.{find-passes}
 use Rattle.mk_lists.proofs.Options.{None-from_map}
 use Rattle.mk_lists.proofs.Changes.{change-none}
+use Rattle.mk_model.proofs.Parts.{attempt_of-id}
 use Rattle.mk_txn.specs.declared.TxnId.{TxnId}
 use Rattle.mk_words.specs.declared.Body.{Body}
 use Rattle.mk_words.specs.declared.Body.TheVariants.{Validate as ValidateBody, Voted, Accept, Accepted as AcceptedBody, Decide, Ask, Told as ToldBody, Moved as MovedBody}
@@ -16,7 +17,7 @@ use Rattle.mk_words.specs.declared.Msg.{Msg}
 use Rattle.mk_words.specs.Links.{goes_to_replica}
 use Rattle.mk_quorum.specs.Sizes.{members}
 use Rattle.mk_quorum.specs.Slots.{passes}
-use Rattle.mk_model.specs.Answers.{is_led, state_answered, takeover_answered, takeover_heard, answer_taken}
+use Rattle.mk_model.specs.Answers.{is_led, takeover_answered, takeover_heard, answer_taken}
 use Rattle.mk_words.specs.declared.Pick.{Pick}
 use Rattle.mk_words.specs.declared.Pick.TheVariants.{Known, Learned as PickLearned, Propose as PickPropose, Short as PickShort, Unaccepted as PickUnaccepted, Unclear}
 use Rattle.mk_words.specs.Picks.{pick}
@@ -35,7 +36,7 @@ use Rattle.mk_txn.specs.Transactions.{same_id}
 use Rattle.mk_txn.proofs.IdOrder.{same_id-tells}
 use Rattle.mk_column.specs.AttemptsByCode.{BegunView, begun_of}
 use Rattle.mk_column.proofs.ListLaws.{map-change}
-use Rattle.mk_column.proofs.StepLaws.{some-from_map, none-learned, attempt-named}
+use Rattle.mk_column.proofs.StepLaws.{some-from_map, none-learned}
 
 pub backup-there : (view_id : ViewId) (all : List BackupView) (column : ColumnState) → column.takeovers ≡ takeovers_of all
     → IsSome (takeover_of column view_id.id view_id.view) → IsSome (backup_of view_id all)
@@ -118,7 +119,7 @@ pick-state round column id view s p found is = by_found (attempt_of column id) r
         ap (λ (x : Attempt). picked_by round.faults x.epoch id view p column) (sym (same_Some (shown a) s e))
         ∙ picked_by-is round.faults id view a p column
         ∙ picked-found round id view (record a { id = id }) p column (takeover_of column id view) is
-        ∙ ap (λ i. record (picking round view (record a { id = i }) column) { learned = column.learned ++ by_takeover round id view (takeover_of column id view) }) (sym (attempt-named column id a there))
+        ∙ ap (λ i. record (picking round view (record a { id = i }) column) { learned = column.learned ++ by_takeover round id view (takeover_of column id view) }) (sym (attempt_of-id column id a there))
 
 pub takeover-state : (round : Setting) (column : ColumnState) (id : TxnId) (view : ℕ) (s : Attempt) → option_map shown (attempt_of column id) ≡ Some s
     → send (to_all round.faults s.epoch id view Ask) (record column { takeovers = column.takeovers ++ (backup_begun round.faults id view).of ∷ [] }) ≡ column_after round column (Takeover id view)
@@ -131,7 +132,7 @@ takeover-state round column id view s found = by_found (attempt_of column id) re
         → begun s.epoch id ≡ record (on_some (taken_over round.faults view) o column) { learned = column.learned ++ [] }
     by_found None there e = absurd (none-some s e)
     by_found (Some a) there e =
-        ap (λ (x : Attempt). begun x.epoch id) (sym (same_Some (shown a) s e)) ∙ ap (begun a.epoch) (sym (attempt-named column id a there))
+        ap (λ (x : Attempt). begun x.epoch id) (sym (same_Some (shown a) s e)) ∙ ap (begun a.epoch) (sym (attempt_of-id column id a there))
         ∙ none-learned (begun a.epoch a.id) column.learned
 
 -- ---- what is heard
@@ -145,14 +146,6 @@ backup-sized f r view_id all h lt there = by_found (backup_of view_id all) refl 
     by_found None e k = absurd (cc k)
     by_found (Some b) e k =
         subst (λ n. r < members n) (sym (Each-find (λ (x : BackupView). x.faults ≡ f) (λ x. is_takeover view_id.id view_id.view x.of) all b h e)) lt
-
--- an answer leaves a takeover's attempt
-pub answered-keeps : (r : ℕ) (body : Body) (t : TakeoverOf) → (takeover_answered r body t).id ≡ t.id
-answered-keeps r body t = by_test t.closed
-  where
-    by_test : (b : Bool) → (cond b t (record t { state = state_answered r body t.state })).id ≡ t.id
-    by_test true = refl
-    by_test false = refl
 
 -- an answer that is not heard teaches nothing
 pub unheard-teaches : (round : Setting) (column : ColumnState) (msg : Msg) (body : Body) → goes_to_replica body ≡ false → is_heard round column msg ≡ false

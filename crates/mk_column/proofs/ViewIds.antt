@@ -3,9 +3,8 @@ use Rattle.std.proofs.Common.{◌≡◌, ℕ, Bool, true, false, cond, refl, ap,
 use Rattle.std.proofs.lemmas.Bool.Decides.{nat_tests}
 use Rattle.mk_column.specs.declared.backup.ViewId.{ViewId}
 use Rattle.mk_words.specs.declared.Body.{Body}
-use Rattle.mk_words.specs.declared.Body.TheVariants.{Validate as ValidateBody, Voted, Accept, Accepted as AcceptedBody, Decide, Ask, Told as ToldBody, Moved as MovedBody}
-use Rattle.mk_words.specs.Picks.{TakeoverState}
 use Rattle.mk_model.specs.Answers.{state_answered, takeover_answered}
+use Rattle.mk_model.proofs.Parts.{state_answered-view}
 use Rattle.mk_column.specs.TakeoversByCode.{BackupView, on_backup, view_id_of, same_view_id}
 
 pub same_view_id-tells : (a b : ViewId) → same_view_id a b ≡ true → a ≡ b
@@ -19,19 +18,9 @@ pub same_view_id-itself : (a : ViewId) → same_view_id a a ≡ true
 same_view_id-itself a = grind (arith, nat_tests)
 
 -- an answer leaves the takeover's attempt and view
-view-answered : (r : ℕ) (body : Body) (state : TakeoverState) → (state_answered r body state).view ≡ state.view
-view-answered r (ValidateBody mark) state = refl
-view-answered r (Voted vote) state = refl
-view-answered r (Accept outcome) state = refl
-view-answered r AcceptedBody state = refl
-view-answered r (Decide outcome) state = refl
-view-answered r Ask state = refl
-view-answered r (ToldBody told) state = refl
-view-answered r (MovedBody moved) state = refl
-
 pub view_id-answered : (r : ℕ) (body : Body) (backup : BackupView) → view_id_of (on_backup (takeover_answered r body) backup) ≡ view_id_of backup
 view_id-answered r body backup = by_test backup.of.closed
   where
     by_test : (b : Bool) → view_id_of (on_backup (λ of. cond b of (record of { state = state_answered r body of.state })) backup) ≡ view_id_of backup
     by_test true = refl
-    by_test false = ap (λ view. record { id = backup.of.id; view = view }) (view-answered r body backup.of.state)
+    by_test false = ap (λ view. record { id = backup.of.id; view = view }) (state_answered-view r body backup.of.state)

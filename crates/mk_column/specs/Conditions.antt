@@ -1,5 +1,5 @@
 -- When a step is enabled: the conditions of each step, in their order.
-use Rattle.std.specs.Prelude.{ℕ, not, Option, Some, None}
+use Rattle.std.specs.Prelude.{ℕ, Option, Some, None}
 use Rattle.mk_column.specs.declared.ColumnError.{ColumnError}
 use Rattle.mk_column.specs.declared.ColumnError.TheVariants.{NotEnabled, NoMemory}
 

@@ -1,6 +1,6 @@
 -- What each step does to key acts.
 use Rattle.std.proofs.Common.{◌≡◌, ◌∙◌, ℕ, true, refl, arith, sym, ap, subst, [], ◌∷◌, ◌++◌, Option, Some, None, ◌&&◌, ◌==◌}
-use Rattle.std.specs.Prelude.{option_map}
+use Rattle.std.specs.Prelude.{option_map, slice_get}
 use Rattle.std.proofs.lemmas.Bool.Decides.{nat_tests}
 use Rattle.std.proofs.lemmas.Bool.{and_parts}
 use Rattle.std.proofs.lemmas.List.{append-nil}
@@ -25,15 +25,33 @@ use Rattle.mk_model.specs.ColumnState.{ColumnState, AttemptState, Work, entries_
 use Rattle.mk_model.specs.ColumnState.Work.{Idle, Fetching, Validating, Finishing}
 use Rattle.mk_model.specs.Conditions.{conditions, same_call, call_at, wanted}
 use Rattle.mk_txn.specs.declared.TxnId.{TxnId}
-use Rattle.mk_model.specs.Steps.{with_read, answered, validated}
+use Rattle.mk_model.specs.Replicas.{finishing}
+use Rattle.mk_model.specs.Steps.{epoch_of, with_read, answered, validated}
 use Rattle.mk_model.proofs.Frames.{AllTrue}
-use Rattle.mk_column_laws.specs.Moments.{Moment, Taught, step_done, act_of, remembered}
+use Rattle.mk_column_laws.specs.Moments.{Moment, PastAct, Taught, step_done, act_of, remembered}
 use Rattle.mk_column_laws.specs.Moves.{past_opened}
 use Rattle.mk_column_laws.specs.Facts.{Facts}
-use Rattle.mk_column_laws.specs.KeyActs.{ActMove}
-use Rattle.mk_column_laws.specs.KeyActs.ActMove.{NoAct, ActFetched, ActChecked, ActVoted, ActFinished}
+use Rattle.mk_column_laws.specs.KeyActs.{act_at}
 use Rattle.mk_column_laws.proofs.SortedEntries.{validated_entry}
 use Rattle.mk_column_laws.proofs.SortedSteps.{idle_from}
+
+-- an act that is done now, at this replica
+abbrev pub act_now : Moment → ℕ → KeyAct → Answer → PastAct
+act_now m r act answer = act_at m.past.now r (epoch_of (slice_get m.round.views r)) act answer
+
+-- no act is done, or the act that is wanted is
+pub data ActMove (m next : Moment) : Type 0 where
+  NoAct : next.past.acts ≡ m.past.acts → m.column.work ≡ Idle → ActMove m next
+  ActFetched : (id : TxnId) (r key : ℕ) (answer : Answer) → m.column.work ≡ Fetching id r key →
+      ((a : AttemptState) → attempt_of m.column id ≡ Some a → attempt_of next.column id ≡ Some (with_read key answer a)) →
+      next.past.acts ≡ m.past.acts ++ act_now m r (key, Get) answer ∷ [] → next.column.work ≡ Idle → ActMove m next
+  ActChecked : (txn : Transaction) (r epoch : ℕ) (state : ValidationState) (act : KeyAct) (answer : Answer) → next.past.now ≡ m.past.now → m.column.work ≡ Validating txn r epoch state → next_act state ≡ Some act →
+      next.past.acts ≡ m.past.acts ++ act_now m r act answer ∷ [] → next.column.work ≡ Validating txn r epoch (after_answer state answer) → ActMove m next
+  ActVoted : (txn : Transaction) (r epoch : ℕ) (state : ValidationState) (act : KeyAct) (answer : Answer) → next.past.now ≡ m.past.now → m.column.work ≡ Validating txn r epoch state → next_act state ≡ Some act →
+      next.past.acts ≡ m.past.acts ++ act_now m r act answer ∷ [] → next_act (after_answer state answer) ≡ None → next.column.work ≡ Idle →
+      (let opened_one = past_opened txn in next.past.entries r txn.id ≡ Some (record opened_one { vote = Some (vote_of (after_answer state answer), m.past.now) })) → ActMove m next
+  ActFinished : (r : ℕ) (act : KeyAct) (left : List KeyAct) (answer : Answer) → next.past.now ≡ m.past.now → next.round ≡ m.round → m.column.work ≡ Finishing r (act ∷ left) →
+      next.past.acts ≡ m.past.acts ++ act_now m r act answer ∷ [] → next.column.work ≡ finishing r left → ActMove m next
 
 same_value-tells : (a b : Value) → same_value a b ≡ true → a ≡ b
 same_value-tells (Number a) (Number b) e = (let k : a ≡ b = grind (arith, nat_tests, e) in ap Number k)

@@ -30,8 +30,9 @@ use Rattle.mk_column_laws.specs.Moves.{Moves, EntryMove, WorkMove, past_opened, 
 use Rattle.mk_column_laws.specs.Moves.EntryMove.{EntryStays, EntryOpens, EntryVotes, EntryPromises, EntryAccepts, EntryFinishes}
 use Rattle.mk_column_laws.specs.Moves.WorkMove.{WorkRests, WorkFetches, WorkValidates, WorkGoesOn, WorkEnds, WorkFinishes}
 use Rattle.mk_column_laws.specs.Facts.{Facts, WorkFacts}
-use Rattle.mk_column_laws.specs.KeyActs.{ActMove, ActFacts, ActOrigin, VoteActs, ValidationActs, FinishActs, WorkActs, WasDone, IsInEpoch, ReleaseReason, act_at, act_now}
-use Rattle.mk_column_laws.specs.KeyActs.ActMove.{NoAct, ActFetched, ActChecked, ActVoted, ActFinished}
+use Rattle.mk_column_laws.specs.KeyActs.{ActFacts, ActOrigin, VoteActs, ValidationActs, FinishActs, WorkActs, WasDone, IsInEpoch, ReleaseReason, act_at}
+use Rattle.mk_column_laws.proofs.ActMoves.{ActMove, act_now}
+use Rattle.mk_column_laws.proofs.ActMoves.ActMove.{NoAct, ActFetched, ActChecked, ActVoted, ActFinished}
 use Rattle.mk_column_laws.specs.KeyActs.ActOrigin.{OfRead, OfCheck, OfRelease, OfCommit}
 use Rattle.mk_column_laws.proofs.Growing.{grows}
 

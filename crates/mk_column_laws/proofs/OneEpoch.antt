@@ -2,13 +2,17 @@
 use Rattle.std.proofs.Common.{◌≡◌, ℕ, false, refl, arith, inl, inr, sym, subst, List, [], ◌∷◌, ◌||◌, ◌&&◌}
 use Rattle.mk_txn.specs.declared.TxnId.{TxnId}
 use Rattle.mk_txn.specs.declared.Outcome.{Outcome}
-use Rattle.mk_column_laws.specs.Moments.{Moment, Event, StaysTaught, EachHappens, CanHappen, IsReached, after_event, moment_through, first_moment, has_number}
+use Rattle.mk_column_laws.specs.Moments.{Moment, Event, Taught, StaysTaught, EachHappens, CanHappen, IsReached, after_event, moment_through, first_moment, has_number}
 use Rattle.mk_column_laws.specs.Moments.Event.{NewRound, Doing}
 use Rattle.mk_model.specs.Deciding.{IsDecided}
 use Rattle.mk_column_laws.specs.Facts.{IsBacked}
-use Rattle.mk_column_laws.specs.FirstEpoch.{nothing_taught, InFirstEpoch, EachInFirstEpoch, OneDecisionInFirstEpoch, LearningsAreDecided, LearningsAgree}
+use Rattle.mk_column_laws.specs.FirstEpoch.{InFirstEpoch, EachInFirstEpoch, OneDecisionInFirstEpoch, LearningsAreDecided, LearningsAgree}
 use Rattle.mk_column_laws.proofs.Rounds.{reached_facts}
 use Rattle.mk_column_laws.proofs.TheLaws.{decisions_agree}
+
+-- nothing is ever taught
+abbrev nothing_taught : Taught
+nothing_taught = λ id epoch outcome round. false
 
 nothing_stays : StaysTaught nothing_taught
 nothing_stays id epoch o i j le e = e

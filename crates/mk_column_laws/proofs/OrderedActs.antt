@@ -19,13 +19,13 @@ use Rattle.mk_column_laws.specs.Moments.{Moment, PastAct, PastEntry, Taught, Sta
 use Rattle.mk_column_laws.specs.Moments.Event.{NewRound, Doing}
 use Rattle.mk_column_laws.specs.Moves.{past_opened, undated}
 use Rattle.mk_column_laws.specs.Facts.{Facts, WorkFacts}
-use Rattle.mk_column_laws.specs.KeyActs.{ActMove, ActFacts, ActOrigin, ValidationActs, FinishActs, WorkActs, act_now}
-use Rattle.mk_column_laws.specs.KeyActs.ActMove.{NoAct, ActFetched, ActChecked, ActVoted, ActFinished}
+use Rattle.mk_column_laws.specs.KeyActs.{ActFacts, ActOrigin, ValidationActs, FinishActs, WorkActs}
+use Rattle.mk_column_laws.proofs.ActMoves.ActMove.{NoAct, ActFetched, ActChecked, ActVoted, ActFinished}
 use Rattle.mk_column_laws.specs.KeyActs.ActOrigin.{OfRead, OfCheck, OfRelease, OfCommit}
 use Rattle.mk_column_laws.specs.Identity.{Identity}
 use Rattle.mk_column_laws.specs.ActLaws.{CommitsFor, IsNoCheckAfter, NoCheckFollows, NoCheckAfterCommit}
 use Rattle.mk_column_laws.proofs.Rounds.{event_facts, start_facts}
-use Rattle.mk_column_laws.proofs.ActMoves.{act_moves}
+use Rattle.mk_column_laws.proofs.ActMoves.{ActMove, act_now, act_moves}
 use Rattle.mk_column_laws.proofs.KeptActs.{first_among}
 use Rattle.mk_column_laws.proofs.RoundActs.{event_acts, start_acts}
 use Rattle.mk_column_laws.proofs.IdentitySteps.{named_by_stamp, event_fine, start_fine}

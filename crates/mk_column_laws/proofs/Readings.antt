@@ -22,11 +22,11 @@ use Rattle.mk_column_laws.specs.Moves.AttemptMove.{AttemptStays, AttemptBegins, 
 use Rattle.mk_column_laws.specs.Moves.AttemptChange.{EndsReading, Reads, Stamps, RulesFast, RulesLearned, Proposes, Hears, Stops}
 use Rattle.mk_column_laws.specs.Moves.WorkMove.{WorkRests, WorkFetches, WorkValidates, WorkGoesOn, WorkEnds, WorkFinishes}
 use Rattle.mk_column_laws.specs.Facts.{Facts}
-use Rattle.mk_column_laws.specs.KeyActs.{ActMove, ActFacts, WasDone, act_at, act_now}
-use Rattle.mk_column_laws.specs.KeyActs.ActMove.{NoAct, ActFetched, ActChecked, ActVoted, ActFinished}
+use Rattle.mk_column_laws.specs.KeyActs.{ActFacts, WasDone, act_at}
+use Rattle.mk_column_laws.proofs.ActMoves.ActMove.{NoAct, ActFetched, ActChecked, ActVoted, ActFinished}
 use Rattle.mk_column_laws.specs.Reading.{ReadsOf, ReadFacts, FetchFacts, ReadsWereGot}
 use Rattle.mk_column_laws.proofs.Rounds.{event_facts, event_moves, start_facts, attempts_then}
-use Rattle.mk_column_laws.proofs.ActMoves.{act_moves}
+use Rattle.mk_column_laws.proofs.ActMoves.{ActMove, act_now, act_moves}
 use Rattle.mk_column_laws.proofs.KeptActs.{acts_older, serves-epoch}
 use Rattle.mk_column_laws.proofs.RoundActs.{event_acts, start_acts, served_before}
 

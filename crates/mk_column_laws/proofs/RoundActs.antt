@@ -16,7 +16,7 @@ use Rattle.mk_column_laws.specs.Moments.{Moment, PastEntry, Taught, StaysTaught,
 use Rattle.mk_column_laws.specs.Moments.Event.{NewRound, Doing}
 use Rattle.mk_column_laws.specs.Facts.{Facts, WorkFacts}
 use Rattle.mk_column_laws.specs.KeyActs.{ActFacts, IsReleasing, ReleaseReason}
-use Rattle.mk_column_laws.specs.KeyActs.ActMove.{NoAct}
+use Rattle.mk_column_laws.proofs.ActMoves.ActMove.{NoAct}
 use Rattle.mk_column_laws.specs.ActLaws.{ActsHold, ActsHaveOrigin, ChecksOfOk, RefusalOfAbort, ReleasesOfOk}
 use Rattle.mk_column_laws.proofs.ActMoves.{act_moves}
 use Rattle.mk_column_laws.proofs.KeptActs.{acts_kept}

@@ -1,5 +1,5 @@
 -- Runs in which no epoch changes: every view is of epoch 0, and no replica is reset.
-use Rattle.std.specs.Prelude.{◌≡◌, ℕ, true, false, List, [], ◌∷◌, Some, None, slice_get}
+use Rattle.std.specs.Prelude.{◌≡◌, ℕ, true, List, [], ◌∷◌, Some, None, slice_get}
 use Rattle.mk_lists.specs.Among.{Among}
 use Rattle.mk_txn.specs.declared.TxnId.{TxnId}
 use Rattle.mk_txn.specs.declared.Outcome.{Outcome}
@@ -8,13 +8,9 @@ use Rattle.mk_trim.specs.declared.ReplicaView.{ReplicaView}
 use Rattle.mk_model.specs.ColumnState.{Learning}
 use Rattle.mk_model.specs.ColumnState.Work.{Idle}
 use Rattle.mk_model.specs.Conditions.{blocked}
-use Rattle.mk_column_laws.specs.Moments.{Moment, Event, Taught, after_event, moment_through, first_moment}
+use Rattle.mk_column_laws.specs.Moments.{Moment, Event, after_event, moment_through, first_moment}
 use Rattle.mk_column_laws.specs.Moments.Event.{NewRound, Doing}
 use Rattle.mk_model.specs.Deciding.{IsDecided}
-
--- nothing is ever taught
-abbrev pub nothing_taught : Taught
-nothing_taught = λ id epoch outcome round. false
 
 -- the event can happen, and stays in epoch 0
 abbrev pub InFirstEpoch : Event → Moment → Type 0

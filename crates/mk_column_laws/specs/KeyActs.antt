@@ -1,5 +1,5 @@
 -- Key acts of a column: where each comes from, and what votes and final outcomes tell of them.
-use Rattle.std.specs.Prelude.{◌≡◌, ◌⊎◌, ◌≤◌, ℕ, true, List, [], ◌∷◌, ◌++◌, Some, None, slice_get}
+use Rattle.std.specs.Prelude.{◌≡◌, ◌⊎◌, ◌≤◌, ℕ, true, List, Some, None, slice_get}
 use Rattle.mk_lists.specs.Among.{Among}
 use Rattle.mk_txn.specs.declared.TxnId.{TxnId}
 use Rattle.mk_txn.specs.declared.Conflict.{Conflict}
@@ -14,13 +14,12 @@ use Rattle.mk_words.specs.declared.Answer.{Answer}
 use Rattle.mk_words.specs.declared.Answer.TheVariants.{Okay, Refused}
 use Rattle.mk_quorum.specs.Slots.{passes}
 use Rattle.mk_words.specs.Checks.{KeyAct, checks, commits_of, releases_of, finish_acts}
-use Rattle.mk_words.specs.Validations.{ValidationState, next_act, after_answer, vote_of}
+use Rattle.mk_words.specs.Validations.{ValidationState}
 use Rattle.mk_model.specs.ColumnState.{AttemptState, Work, attempt_of}
-use Rattle.mk_model.specs.ColumnState.Work.{Idle, Fetching, Validating, Finishing}
-use Rattle.mk_model.specs.Replicas.{serves, finishing}
-use Rattle.mk_model.specs.Steps.{epoch_of, with_read}
+use Rattle.mk_model.specs.ColumnState.Work.{Validating, Finishing}
+use Rattle.mk_model.specs.Replicas.{serves}
 use Rattle.mk_column_laws.specs.Moments.{Moment, PastAct, PastEntry}
-use Rattle.mk_column_laws.specs.Moves.{undated, past_opened}
+use Rattle.mk_column_laws.specs.Moves.{undated}
 
 -- an act at a key, with its place and answer
 abbrev pub act_at : ℕ → ℕ → ℕ → KeyAct → Answer → PastAct
@@ -33,26 +32,6 @@ WasDone m round r epoch act answer = Among (act_at round r epoch act answer) m.p
 -- the attempt is of this epoch
 abbrev pub IsInEpoch : Moment → TxnId → ℕ → Type 0
 IsInEpoch m id epoch = (a : AttemptState) × (attempt_of m.column id ≡ Some a) × (a.epoch ≡ epoch)
-
--- ---- what an event does to key acts
-
--- an act that is done now, at this replica
-abbrev pub act_now : Moment → ℕ → KeyAct → Answer → PastAct
-act_now m r act answer = act_at m.past.now r (epoch_of (slice_get m.round.views r)) act answer
-
--- no act is done, or the act that is wanted is
-pub data ActMove (m next : Moment) : Type 0 where
-  NoAct : next.past.acts ≡ m.past.acts → m.column.work ≡ Idle → ActMove m next
-  ActFetched : (id : TxnId) (r key : ℕ) (answer : Answer) → m.column.work ≡ Fetching id r key →
-      ((a : AttemptState) → attempt_of m.column id ≡ Some a → attempt_of next.column id ≡ Some (with_read key answer a)) →
-      next.past.acts ≡ m.past.acts ++ act_now m r (key, Get) answer ∷ [] → next.column.work ≡ Idle → ActMove m next
-  ActChecked : (txn : Transaction) (r epoch : ℕ) (state : ValidationState) (act : KeyAct) (answer : Answer) → next.past.now ≡ m.past.now → m.column.work ≡ Validating txn r epoch state → next_act state ≡ Some act →
-      next.past.acts ≡ m.past.acts ++ act_now m r act answer ∷ [] → next.column.work ≡ Validating txn r epoch (after_answer state answer) → ActMove m next
-  ActVoted : (txn : Transaction) (r epoch : ℕ) (state : ValidationState) (act : KeyAct) (answer : Answer) → next.past.now ≡ m.past.now → m.column.work ≡ Validating txn r epoch state → next_act state ≡ Some act →
-      next.past.acts ≡ m.past.acts ++ act_now m r act answer ∷ [] → next_act (after_answer state answer) ≡ None → next.column.work ≡ Idle →
-      (let opened_one = past_opened txn in next.past.entries r txn.id ≡ Some (record opened_one { vote = Some (vote_of (after_answer state answer), m.past.now) })) → ActMove m next
-  ActFinished : (r : ℕ) (act : KeyAct) (left : List KeyAct) (answer : Answer) → next.past.now ≡ m.past.now → next.round ≡ m.round → m.column.work ≡ Finishing r (act ∷ left) →
-      next.past.acts ≡ m.past.acts ++ act_now m r act answer ∷ [] → next.column.work ≡ finishing r left → ActMove m next
 
 -- ---- what holds of key acts
 

@@ -1,15 +1,14 @@
--- The five rulings by votes and the two by accepts, from counts over the lists.
-use Rattle.std.proofs.Common.{◌≡◌, ◌<◌, ◌≤◌, ℕ, arith, List, length, count_by, Bool}
+-- The five rulings by votes, from counts over the lists.
+use Rattle.std.proofs.Common.{◌≡◌, ◌<◌, ◌≤◌, ℕ, arith, List, length, count_by}
 use Rattle.std.specs.Prelude.{Option}
 use Rattle.std.proofs.lemmas.Bool.Decides.{nat_tests}
 use Rattle.mk_txn.specs.declared.Vote.{Vote}
-use Rattle.mk_txn.specs.declared.Outcome.{Outcome}
 use Rattle.mk_txn.specs.declared.Outcome.TheVariants.{Commit}
 use Rattle.mk_txn.specs.Outcomes.{is_ok_vote}
 use Rattle.mk_quorum.specs.Sizes.{members, majority_of, fast_of}
 use Rattle.mk_quorum.specs.Slots.{passes}
-use Rattle.mk_words.specs.declared.Ruling.TheVariants.{Fast, Propose, Learned, Short, Unaccepted}
-use Rattle.mk_words.specs.Rulings.{by_votes, by_accepts, first_refusal, is_abort_vote, any_vote}
+use Rattle.mk_words.specs.declared.Ruling.TheVariants.{Fast, Propose, Short}
+use Rattle.mk_words.specs.Rulings.{by_votes, first_refusal, is_abort_vote, any_vote}
 use Rattle.mk_quorum.proofs.SlotLists.{slots_counted}
 
 pub fast_commit : (f : ℕ) (votes : List (Option Vote)) → length votes ≡ members f →
@@ -40,12 +39,3 @@ pub propose_abort : (f : ℕ) (votes : List (Option Vote)) → length votes ≡ 
     by_votes f votes ≡ Propose (first_refusal votes)
 propose_abort f votes e oks aborts all few =
     grind (arith, nat_tests, slots_counted (members f) is_ok_vote votes e, slots_counted (members f) is_abort_vote votes e, slots_counted (members f) any_vote votes e)
-
-pub learned : (f : ℕ) (outcome : Outcome) (accepts : List (Option Bool)) → length accepts ≡ members f →
-    majority_of f ≤ count_by (passes (λ accepted. accepted)) accepts → by_accepts f outcome accepts ≡ Learned outcome
-learned f outcome accepts e most = grind (arith, nat_tests, slots_counted (members f) (λ accepted. accepted) accepts e)
-
-pub unaccepted : (f : ℕ) (outcome : Outcome) (accepts : List (Option Bool)) → length accepts ≡ members f →
-    count_by (passes (λ accepted. accepted)) accepts < majority_of f →
-    by_accepts f outcome accepts ≡ Unaccepted (count_by (passes (λ accepted. accepted)) accepts)
-unaccepted f outcome accepts e few = grind (arith, nat_tests, slots_counted (members f) (λ accepted. accepted) accepts e)

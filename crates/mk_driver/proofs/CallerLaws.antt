@@ -98,12 +98,6 @@ pub rising-set : (place : ℕ) (y d : Caller) (xs : List Caller) → IsRising (n
     IsRising (numbers_of (slice_set xs place y))
 rising-set place y d xs h l e = rw (numbers-set place y d xs l e) h
 
--- the number of the client at a place
-pub number-at : (place : ℕ) (d : Caller) (xs : List Caller) → place < length xs → slice_index (numbers_of xs) place ≡ (let caller = slice_index_or xs place d in caller.number)
-number-at place d [] l = absurd (omega (arith, l))
-number-at zero d (x ∷ xs) l = refl
-number-at (suc place) d (x ∷ xs) l = number-at place d xs (omega (arith, l))
-
 pub get-index : (place : ℕ) (d caller : Caller) (xs : List Caller) → slice_get xs place ≡ Some caller → slice_index_or xs place d ≡ caller
 get-index place d caller [] e = absurd (cc e)
 get-index zero d caller (x ∷ xs) e = cc e

@@ -1,6 +1,7 @@
 -- The transactions of a script have at most 16 items.
 use Rattle.std.proofs.Common.{◌≡◌, ◌<◌, ℕ, zero, suc, List, [], ◌∷◌, arith, length, map, refl, ap}
 use Rattle.std.specs.Prelude.{slice_index_or}
+use Rattle.std.proofs.lemmas.List.{length-map}
 use Rattle.mk_lists.specs.Among.{Each}
 use Rattle.mk_script.specs.declared.lines.ClientLine.{ClientLine}
 use Rattle.mk_script.specs.declared.lines.TxnLine.{TxnLine}
@@ -9,15 +10,11 @@ use Rattle.mk_script.specs.Scripts.{ScriptParts}
 use Rattle.mk_script.specs.Whole.{IsWhole, TxnsAt, RoundsAt}
 use Rattle.mk_driver.specs.Keeping.{HasFew, HaveFew}
 
-length-map-own : {X Y : Type 0} (f : X → Y) (xs : List X) → length (map f xs) ≡ length xs
-length-map-own f [] = refl
-length-map-own f (x ∷ xs) = ap suc (length-map-own f xs)
-
 txns_few : (version : ℕ) (clients : List ClientLine) (keys : List (List ℕ)) (txns : List TxnLine) (after : List (List ℕ)) → TxnsAt version clients keys txns after → Each HasFew txns
 txns_few version clients keys [] after h = tt
 txns_few version clients keys (txn ∷ txns) after h =
     let fits = h.1 in
-    let long : length txn.items ≡ length fits.mentions = rw fits.items (length-map-own _ fits.mentions) in
+    let long : length txn.items ≡ length fits.mentions = rw fits.items (length-map fits.mentions _) in
     (omega (arith, long, fits.few), txns_few version clients h.0 txns after h.2)
 
 rounds_few : (version size : ℕ) (clients : List ClientLine) (keys : List (List ℕ)) (rounds : List Round) (after : List (List ℕ)) → RoundsAt version size clients keys rounds after → Each HaveFew rounds

@@ -52,10 +52,6 @@ in_order-ascending number (x ∷ xs) h = by (nat_lt number x) refl (in_order-asc
         ((l, Each-weaker (λ other. x ≤ other) (λ other. number ≤ other) (λ other m. omega (arith, l, m)) xs h.0), h)
     by false e k = let l : x ≤ number = grind (arith, nat_tests, e) in (each-in x number xs l h.0, k)
 
--- and so does taking the first
-pub after-ascending : (x : ℕ) (xs : List ℕ) → IsAscending (x ∷ xs) → IsAscending xs
-after-ascending x xs h = h.1
-
 -- within the list the default counts for nothing
 pub index-or : (place d : ℕ) (xs : List ℕ) → place < length xs → slice_index_or xs place d ≡ slice_index xs place
 index-or place d [] l = absurd (omega (arith, l))

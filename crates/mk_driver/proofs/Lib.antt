@@ -9,6 +9,5 @@ mod Reading
 mod TrialLaws
 mod PartLaws
 mod RoundLaws
-mod StartLaws
 mod StandingLaws
 mod FewLaws

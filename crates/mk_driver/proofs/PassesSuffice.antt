@@ -182,13 +182,6 @@ two_passes k round column true driver =
     whole_pass round column (after_passes (suc k) round column) (after_passes 1 round column) (last_pass k round column)
     (numbers_from 0 (length driver.callers)) false driver (every_place driver)
 
--- with more passes at hand the turns name the same
-pub passes_suffice : (k : ℕ) (round : Setting) (column : ColumnState) (places : List ℕ) (did : Bool) (driver : DriverState) →
-    in_pass round column (after_passes (suc (suc k)) round column) places did driver
-    ≡ in_pass round column (after_passes 2 round column) places did driver
-passes_suffice k round column places did driver =
-    ap (λ after. in_pass round column after places did driver) (λ i. λ d changed. two_passes k round column d changed i)
-
 -- a further pass has as many passes after it as the first had
 pub pass_over : (round : Setting) (column : ColumnState) (driver : DriverState) →
     after_passes 2 round column true driver

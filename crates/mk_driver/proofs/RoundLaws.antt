@@ -3,6 +3,7 @@ use Rattle.std.proofs.Common.{◌≡◌, ◌<◌, ◌≤◌, ℕ, zero, suc, ◌
 use Rattle.std.proofs.Math.Seq.{take-append_seam}
 use Rattle.std.specs.Prelude.{is_some}
 use Rattle.std.specs.List.{list_any}
+use Rattle.mk_lists.proofs.Lookups.{list_any-find}
 use Rattle.mk_driver.specs.declared.Task.{Task}
 use Rattle.mk_driver.specs.declared.Task.TheVariants.{Take}
 use Rattle.mk_driver.specs.declared.Caller.{Caller}
@@ -26,36 +27,15 @@ takes-down n xs tasks h k =
     (λ m. map (λ number. Take number) (take m xs) ++ tasks ≡ map (λ number. Take number) (take (n - 1) xs) ++ Take (slice_index xs (n - 1)) ∷ tasks) long
     (takes-last (n - 1) xs tasks (omega (arith, h, k)))
 
-any_find : {X : Type 0} (p : X → Bool) (xs : List X) → list_any p xs ≡ is_some (find p xs)
-any_find p [] = refl
-any_find p (x ∷ xs) = grind (arith, any_find p xs)
-
 -- one that was found is there
 pub any-at : {X : Type 0} (p : X → Bool) (place : ℕ) (xs : List X) → place < length xs → ((d : X) → find p xs ≡ Some (slice_index_or xs place d)) → list_any p xs ≡ true
 any-at p place [] h f = absurd (omega (arith, h))
-any-at p place (x ∷ xs) h f = any_find p (x ∷ xs) ∙ ap is_some (f x)
+any-at p place (x ∷ xs) h f = list_any-find p (x ∷ xs) ∙ ap is_some (f x)
 
 pub any-none : {X : Type 0} (p : X → Bool) (xs : List X) → find p xs ≡ None → list_any p xs ≡ false
-any-none p xs e = any_find p xs ∙ ap is_some e
+any-none p xs e = list_any-find p xs ∙ ap is_some e
 
 -- ---- the clients' lines
-
--- the next client's lines are put
-pub put-step : (i : ℕ) (callers : List Caller) (caller : Caller) (lines : List Request) (rest : List (List Request)) → slice_get callers i ≡ Some caller →
-    take i callers ++ with_lines (lines ∷ rest) (drop i callers)
-    ≡ take (suc i) (slice_set callers i (record caller { lines = lines })) ++ with_lines rest (drop (suc i) (slice_set callers i (record caller { lines = lines })))
-put-step i [] caller lines rest e = absurd (cc e)
-put-step zero (x ∷ xs) caller lines rest e =
-    let same : x ≡ caller = cc e in
-    ap (λ (y : Caller). record y { lines = lines } ∷ with_lines rest xs) same
-put-step (suc i) (x ∷ xs) caller lines rest e = ap (λ ys. x ∷ ys) (put-step i xs caller lines rest e)
-
--- with none left, the others stay
-pub put-none : (i : ℕ) (callers : List Caller) → take i callers ++ with_lines [] (drop i callers) ≡ take (suc i) callers ++ with_lines [] (drop (suc i) callers)
-put-none zero [] = refl
-put-none zero (x ∷ xs) = refl
-put-none (suc i) [] = refl
-put-none (suc i) (x ∷ xs) = ap (λ ys. x ∷ ys) (put-none i xs)
 
 -- past the last client nothing is left to do
 pub put-end : (i : ℕ) (callers : List Caller) (lists : List (List Request)) → length callers ≤ i → take i callers ++ with_lines lists (drop i callers) ≡ callers
@@ -78,11 +58,6 @@ put-all xs items n i lists left all same h is =
 asked_all : (submissions : List Submission) (xs : List Caller) → with_lines (map (λ caller. (asked_more submissions caller).lines) xs) xs ≡ map (asked_more submissions) xs
 asked_all submissions [] = refl
 asked_all submissions (x ∷ xs) = ap (λ ys. asked_more submissions x ∷ ys) (asked_all submissions xs)
-
--- the clients keep their numbers
-pub asked_numbers : (submissions : List Submission) (xs : List Caller) → numbers_of (map (asked_more submissions) xs) ≡ numbers_of xs
-asked_numbers submissions [] = refl
-asked_numbers submissions (x ∷ xs) = ap (λ ns. x.number ∷ ns) (asked_numbers submissions xs)
 
 pub submitted : (submissions : List Submission) (raw now : List Caller) (lists : List (List Request)) → raw ≡ now →
     lists ≡ map (λ caller. (asked_more submissions caller).lines) now → with_lines lists raw ≡ map (asked_more submissions) now

@@ -11,3 +11,4 @@ pub mod Keeping
 pub mod Driven
 pub mod Drivers
 pub mod Standings
+pub mod RisingNumbers

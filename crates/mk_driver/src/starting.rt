@@ -135,7 +135,7 @@ fn callers_of(alloc: Global, column: u32, clients: &[ClientLine]) -> Result<Vec<
 
 impl Callers {
     // The clients of the column.
-    #[tactic(auto, using(crate::proofs::StartLaws::callers_rise))]
+    #[tactic(auto, using(crate::specs::RisingNumbers::callers_rise))]
     fn of(alloc: Global, column: u32, clients: &[ClientLine]) -> Result<Callers, NoMemory>
         requires { length clients.now ≤ 64 }
         ensures { IfOk result (λ callers. callers ≡ callers_from column 1 clients.now) }

@@ -4,7 +4,9 @@ use Rattle.std.specs.Prelude.{nat_le, is_some, find, slice_get, ◌==◌}
 use Rattle.std.specs.List.{list_any}
 use Rattle.std.proofs.lemmas.Bool.Decides.{nat_tests}
 use Rattle.std.proofs.lemmas.Nat.{mod_below, div-add-mod', mod-mul-add}
+use Rattle.std.proofs.lemmas.Bool.{and_from, not_from_false}
 use Rattle.mk_lists.specs.Among.{Each-weaker}
+use Rattle.mk_lists.proofs.Lookups.{find-passes}
 use Rattle.mk_quorum.specs.Sizes.{members}
 use Rattle.mk_quorum.specs.Slots.{passes}
 use Rattle.mk_trim.specs.declared.ReplicaView.{ReplicaView}
@@ -12,7 +14,7 @@ use Rattle.mk_words.specs.declared.Step.TheVariants.{Begin, Unread}
 use Rattle.mk_model.specs.ColumnState.{Setting, ColumnState, AttemptState, ClientState, client_of, numbers_from}
 use Rattle.mk_model.specs.Conditions.{blocked, conditions, is_idle, heard_by, may_begin, serves_from, has_seq_left}
 use Rattle.mk_driver.specs.Stages.{reader_for, from_home}
-use Rattle.mk_driver_laws.proofs.Lookups.{find-passes, any-none, and_both, not_false}
+use Rattle.mk_driver_laws.proofs.Lookups.{any-none}
 use Rattle.mk_driver_laws.proofs.Conditions.{none_fails}
 use Rattle.mk_driver_laws.proofs.Reading.{NoneReads}
 
@@ -21,8 +23,8 @@ heard_is c n cl e = grind (arith, e)
 
 begin_allowed : (c : ColumnState) (n : ℕ) (cl : ClientState) → client_of c n ≡ Some cl → NoneReads c → may_begin c n ≡ true
 begin_allowed c n cl e none =
-    and_both (is_some (client_of c n)) _ (ap is_some e)
-    (not_false _ (any-none (λ a. a.reading && a.id.client == n) c.attempts
+    and_from (is_some (client_of c n)) _ (ap is_some e)
+    (not_from_false _ (any-none (λ a. a.reading && a.id.client == n) c.attempts
     (Each-weaker (λ (a : AttemptState). a.reading ≡ true → ⊥) (λ (a : AttemptState). (a.reading && a.id.client == n) ≡ false) (λ a h. by a.reading (a.id.client == n) h) c.attempts none)))
   where
     by : (r b : Bool) → (r ≡ true → ⊥) → (r && b) ≡ false
@@ -109,7 +111,7 @@ unread_sure round c n home cl idle e none q few place =
         begin_allowed c n cl e none,
         (
           subst (λ (h : ℕ). not (list_any (serves_from h) round.views) ≡ true) (sym (heard_is c n cl e))
-              (not_false (list_any (serves_from cl.heard) round.views) (none_serves round home cl.heard few q)),
+              (not_from_false (list_any (serves_from cl.heard) round.views) (none_serves round home cl.heard few q)),
           (place, tt),
         ),
       ),

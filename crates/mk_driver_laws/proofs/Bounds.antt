@@ -4,7 +4,9 @@ use Rattle.std.specs.Prelude.{nat_lt, nat_le, not, ◌==◌, ◌-◌, option_map
 use Rattle.std.specs.List.{list_all}
 use Rattle.std.proofs.lemmas.Bool.Decides.{nat_tests}
 use Rattle.mk_lists.specs.Among.{Each, Each-append, Each-weaker}
-use Rattle.mk_lists.specs.Changed.{change}
+use Rattle.mk_lists.specs.Changed.{change, Each-change}
+use Rattle.mk_lists.proofs.EachMember.{Each-find, Each-map}
+use Rattle.mk_quorum.proofs.Slots.{passes-some}
 use Rattle.mk_quorum.specs.Sizes.{members}
 use Rattle.mk_quorum.specs.Slots.{passes}
 use Rattle.mk_txn.specs.declared.TxnId.{TxnId}
@@ -55,44 +57,16 @@ use Rattle.mk_model.specs.Steps.{taught, proposing, read_item, voted_msg, answer
 use Rattle.mk_history.specs.Histories.{clients_of, log_of}
 use Rattle.mk_driver.specs.Driven.{Standing, PastRound, client_columns_of, first_standing, reset_by_line, reset_by_lines, round_ended, setting_in, standing_after, standing_at, standing_begun, standing_past, standing_through}
 use Rattle.mk_driver_laws.specs.Enabled.{IsDone, AreDone, HasViews, WantedIsThere}
-use Rattle.mk_driver_laws.proofs.Conditions.{all_hold}
+use Rattle.mk_driver_laws.proofs.Lookups.{member-slice_get}
+use Rattle.mk_driver_laws.proofs.Requests.{each_at}
+use Rattle.mk_model.proofs.Frames.{AllTrue-from_first_failing}
 
 -- ---- lists
-
-each-change : {X : Type 0} (P : X → Type 0) (p : X → Bool) (f : X → X) → ((x : X) → P x → P (f x)) → (xs : List X) → Each P xs → Each P (change p f xs)
-each-change P p f g [] h = tt
-each-change P p f g (x ∷ xs) h = (head (p x), each-change P p f g xs h.1)
-  where
-    head : (b : Bool) → P (if b then f x else x)
-    head true = g x h.0
-    head false = h.0
-
-each-find : {X : Type 0} (P : X → Type 0) (p : X → Bool) (x : X) (xs : List X) → Each P xs → find p xs ≡ Some x → P x
-each-find P p x [] h e = absurd (cc e)
-each-find P p x (y ∷ xs) h e = head (each-find P p x xs h.1) (p y) e
-  where
-    head : (find p xs ≡ Some x → P x) → (b : Bool) → (if b then Some y else find p xs) ≡ Some x → P x
-    head rest true z = subst P (let same : y ≡ x = cc z in same) h.0
-    head rest false z = rest z
-
-each-at : {X : Type 0} (P : X → Type 0) (d : X) → P d → (k : ℕ) (xs : List X) → Each P xs → P (slice_index_or xs k d)
-each-at P d b k [] h = b
-each-at P d b zero (x ∷ xs) h = h.0
-each-at P d b (suc k) (x ∷ xs) h = each-at P d b k xs h.1
 
 each-set : {X : Type 0} (P : X → Type 0) (k : ℕ) (y : X) → P y → (xs : List X) → Each P xs → Each P (slice_set xs k y)
 each-set P k y b [] h = tt
 each-set P zero y b (x ∷ xs) h = (b, h.1)
 each-set P (suc k) y b (x ∷ xs) h = (h.0, each-set P k y b xs h.1)
-
-each-map : {X Y : Type 0} (P : X → Type 0) (Q : Y → Type 0) (f : X → Y) → ((x : X) → P x → Q (f x)) → (xs : List X) → Each P xs → Each Q (map f xs)
-each-map P Q f g [] h = tt
-each-map P Q f g (x ∷ xs) h = (g x h.0, each-map P Q f g xs h.1)
-
-each-get : {X : Type 0} (P : X → Type 0) (k : ℕ) (x : X) (xs : List X) → Each P xs → slice_get xs k ≡ Some x → P x
-each-get P k x [] h e = absurd (cc e)
-each-get P zero x (y ∷ xs) h e = subst P (let same : y ≡ x = cc e in same) h.0
-each-get P (suc k) x (y ∷ xs) h e = each-get P k x xs h.1 e
 
 get-below : {X : Type 0} (k : ℕ) (x : X) (xs : List X) → slice_get xs k ≡ Some x → k < length xs
 get-below k x [] e = absurd (cc e)
@@ -103,12 +77,8 @@ message-has : (P : Msg → Type 0) (number : ℕ) (msg : Msg) (link : List Msg) 
 message-has P number msg link h e = by (nat_le 1 number) e
   where
     by : (b : Bool) → (if b then slice_get link (number - 1) else None) ≡ Some msg → P msg
-    by true z = each-get P (number - 1) msg link h z
+    by true z = member-slice_get P link (number - 1) msg h z
     by false z = absurd (cc z)
-
-some-of : {X : Type 0} (p : X → Bool) (o : Option X) → passes p o ≡ true → (x : X) × (o ≡ Some x) × (p x ≡ true)
-some-of p None e = absurd (cc e)
-some-of p (Some x) e = (x, refl, e)
 
 -- ---- bounds of keys
 
@@ -128,8 +98,8 @@ module _ (keys : ℕ) (txn : Transaction) (h : TxnIn keys txn) where
       Each (IsBelow keys) (map (λ (item : ReadItem). (item.key, read item)) txn.reads ++ map (λ (item : WriteItem). (item.key, write item)) txn.writes)
   acts-of read write =
       Each-append (IsBelow keys) (map (λ (item : ReadItem). (item.key, read item)) txn.reads) (map (λ (item : WriteItem). (item.key, write item)) txn.writes)
-      (each-map (λ (item : ReadItem). item.key < keys) (IsBelow keys) (λ (item : ReadItem). (item.key, read item)) (λ item k. k) txn.reads h.reads)
-      (each-map (λ (item : WriteItem). item.key < keys) (IsBelow keys) (λ (item : WriteItem). (item.key, write item)) (λ item k. k) txn.writes h.writes)
+      (Each-map (λ (item : ReadItem). item.key < keys) (IsBelow keys) (λ (item : ReadItem). (item.key, read item)) (λ item k. k) txn.reads h.reads)
+      (Each-map (λ (item : WriteItem). item.key < keys) (IsBelow keys) (λ (item : WriteItem). (item.key, write item)) (λ item k. k) txn.writes h.writes)
 
   checks-in : Each (IsBelow keys) (checks txn)
   checks-in = acts-of _ _
@@ -175,7 +145,7 @@ module _ (keys : ℕ) where
       checked check rest b r Okay =
           record { passed = Each-append (IsBelow keys) state.passed (check ∷ []) h.passed (b, tt); left = r; releases = h.releases }
       checked check rest b r (Refused reason stamp) =
-          record { passed = h.passed; left = r; releases = each-map (IsBelow keys) (IsBelow keys) release_of (λ act k. k) state.passed h.passed }
+          record { passed = h.passed; left = r; releases = Each-map (IsBelow keys) (IsBelow keys) release_of (λ act k. k) state.passed h.passed }
       checked check rest b r (Version version value) = h
       checked check rest b r Done = h
 
@@ -234,7 +204,7 @@ below-all r (suc m) n e = (omega (arith, e), below-all (r + 1) m n (omega (arith
 
 all-sent : (f epoch : ℕ) (id : TxnId) (view : ℕ) (body : Body) → Each (SentTo (members f)) (to_all f epoch id view body)
 all-sent f epoch id view body =
-    each-map (λ (k : ℕ). k < members f) (SentTo (members f)) (λ r. record { epoch = epoch; id = id; replica = r; view = view; body = body }) (λ k h. h)
+    Each-map (λ (k : ℕ). k < members f) (SentTo (members f)) (λ r. record { epoch = epoch; id = id; replica = r; view = view; body = body }) (λ k h. h)
     (numbers_from 0 (members f)) (below-all 0 (members f) (members f) (omega arith))
 
 -- ---- reactions
@@ -253,7 +223,7 @@ module _ (n keys : ℕ) (msg : Msg) (b : SentTo n msg) (txn : Transaction) (t : 
 
   changed-in : (f : Entry → Entry) → ((e : Entry) → (f e).txn ≡ e.txn) → (entries : List Entry) → EntriesIn keys entries → EntriesIn keys (change_entry msg.id f entries)
   changed-in f same entries h =
-      each-change (λ (e : Entry). TxnIn keys e.txn) (is_entry_of msg.id) f (λ e k. subst (TxnIn keys) (sym (same e)) k) entries h
+      Each-change (is_entry_of msg.id) f (λ (e : Entry). TxnIn keys e.txn) (λ e _ k. subst (TxnIn keys) (sym (same e)) k) entries h
 
   with-in : (held : Held) (entry : Option Entry) → HeldIn held → HeldIn (with_entry txn held entry)
   with-in held (Some entry) h = h
@@ -329,7 +299,7 @@ module _ (n keys : ℕ) (msg : Msg) (b : SentTo n msg) (txn : Transaction) (t : 
       late true = moved-in view held msg.body h
       late false =
           reaction-in held (entry_of msg.id held.entries) msg.body h
-          (λ e q. each-find (λ (x : Entry). TxnIn keys x.txn) (is_entry_of msg.id) e held.entries h q)
+          (λ e q. Each-find (λ (x : Entry). TxnIn keys x.txn) (is_entry_of msg.id) held.entries e h q)
 
       early : (low : Bool) → ReactionIn n keys (if low then ignored held else if nat_lt msg.epoch view.epoch then moved_reaction view held msg msg.body else reaction txn held msg (entry_of msg.id held.entries) msg.body)
       early true = ignored-in held h
@@ -361,7 +331,7 @@ module _ (f keys : ℕ) (c : ColumnState) (h : ColumnIn (members f) keys c) wher
       }
 
   attempt-in : (id : TxnId) (a : AttemptState) → attempt_of c id ≡ Some a → AttemptIn (members f) keys a
-  attempt-in id a e = each-find (AttemptIn (members f) keys) (is_attempt id) a c.attempts h.attempts e
+  attempt-in id a e = Each-find (AttemptIn (members f) keys) (is_attempt id) c.attempts a h.attempts e
 
   -- attempts change alike, and messages are sent to all
   alike-sent : (attempts : List AttemptState) → Each (AttemptIn (members f) keys) attempts → (new : ColumnState) → new.attempts ≡ attempts → (messages : List Msg) → Each (SentTo (members f)) messages →
@@ -375,7 +345,7 @@ module _ (f keys : ℕ) (c : ColumnState) (h : ColumnIn (members f) keys c) wher
       }
 
   changed-all : (id : TxnId) (g : AttemptState → AttemptState) → ((a : AttemptState) → IsAlike a (g a)) → Each (AttemptIn (members f) keys) (change (is_attempt id) g c.attempts)
-  changed-all id g s = each-change (AttemptIn (members f) keys) (is_attempt id) g (λ a k. alike-in a (g a) (s a) k) c.attempts h.attempts
+  changed-all id g s = Each-change (is_attempt id) g (AttemptIn (members f) keys) (λ a _ k. alike-in a (g a) (s a) k) c.attempts h.attempts
 
   -- only the coordinator changes
   coord-alike : (a b : AttemptState) → b.reading ≡ a.reading → b.replica ≡ a.replica → b.reads ≡ a.reads → b.txn ≡ a.txn → IsAlike a b
@@ -393,8 +363,8 @@ module _ (f keys : ℕ) (c : ColumnState) (h : ColumnIn (members f) keys c) wher
     where
       below : replica < members f
       below =
-          let holds = all_hold 1 (conditions round c (Begin client replica)) enabled in
-          let there = some-of (serves_from (heard_by c client)) (slice_get round.views replica) holds.1.1.0 in
+          let holds = AllTrue-from_first_failing 1 (conditions round c (Begin client replica)) enabled in
+          let there = passes-some (serves_from (heard_by c client)) (slice_get round.views replica) holds.1.1.0 in
           let low = get-below replica there.0 round.views there.1 in
           omega (arith, low, few)
 
@@ -430,7 +400,7 @@ module _ (f keys : ℕ) (c : ColumnState) (h : ColumnIn (members f) keys c) wher
       by : (o : Option AttemptState) → attempt_of c id ≡ o → In (on_some (λ a col. record col { work = Fetching id a.replica key }) o c)
       by None e = h
       by (Some a) e =
-          let holds = all_hold 1 (conditions round c (Read id key)) enabled in
+          let holds = AllTrue-from_first_failing 1 (conditions round c (Read id key)) enabled in
           let reading : a.reading ≡ true = ap (passes (λ (x : AttemptState). x.reading)) (sym e) ∙ holds.1.0 in
           let low : nat_lt key keys ≡ true = ap (nat_lt key) (sym same) ∙ holds.1.1.0 in
           record { attempts = h.attempts; link = h.link; records = h.records; work = ((attempt-in id a e).replica reading, below-of key low) }
@@ -453,7 +423,7 @@ module _ (f keys : ℕ) (c : ColumnState) (h : ColumnIn (members f) keys c) wher
     where
       below : Each (λ (item : WriteItem). item.key < keys) writes
       below =
-          let holds = all_hold 1 (conditions round c (Stamp id clock writes)) enabled in
+          let holds = AllTrue-from_first_failing 1 (conditions round c (Stamp id clock writes)) enabled in
           let fit : writes_fit keys writes ≡ true = ap (λ (k : ℕ). writes_fit k writes) (sym same) ∙ holds.1.1.0 in
           all-below writes (right-of (nat_le (length writes) 16 && are_distinct (write_keys writes)) (list_all (λ (item : WriteItem). nat_lt item.key keys) writes) fit)
 
@@ -463,7 +433,7 @@ module _ (f keys : ℕ) (c : ColumnState) (h : ColumnIn (members f) keys c) wher
       with_stamp : (id : TxnId) (s : Option StampType) → In (stamped id writes s c)
       with_stamp id None = h
       with_stamp id (Some stamp) =
-          record { attempts = each-change (AttemptIn (members f) keys) (is_attempt id) (with_txn stamp writes) (one stamp) c.attempts h.attempts; link = h.link; records = h.records; work = h.work }
+          record { attempts = Each-change (is_attempt id) (with_txn stamp writes) (AttemptIn (members f) keys) (λ x _. (one stamp) x) c.attempts h.attempts; link = h.link; records = h.records; work = h.work }
 
       its_client : (a : AttemptState) (o : Option ClientState) → In (on_some (λ cl col. stamped a.id writes (next_stamp_of cl.number cl.last_time clock a.reads) col) o c)
       its_client a None = h
@@ -561,7 +531,7 @@ module _ (f keys : ℕ) (c : ColumnState) (h : ColumnIn (members f) keys c) wher
       stamp-in None k = h
       stamp-in (Some txn) k =
           reacted-in msg.replica _
-          (by-view-in (members f) keys msg b txn k (held_at c msg.replica) (slice_get round.views msg.replica) (each-at (EntriesIn keys) [] tt msg.replica c.records h.records))
+          (by-view-in (members f) keys msg b txn k (held_at c msg.replica) (slice_get round.views msg.replica) (each_at (EntriesIn keys) c.records msg.replica [] h.records tt))
 
       by : (o : Option AttemptState) → attempt_of c msg.id ≡ o → In (on_some (replica_takes round msg) (option_and_then (λ (a : AttemptState). a.txn) o) c)
       by None e = h
@@ -617,7 +587,7 @@ module _ (f keys : ℕ) (c : ColumnState) (h : ColumnIn (members f) keys c) wher
         attempts = h.attempts;
         link = Each-append (SentTo (members f)) c.link (voted_msg txn r epoch (vote_of state) ∷ []) h.link (b, tt);
         records = each-set (EntriesIn keys) r _
-            (each-change (λ (e : Entry). TxnIn keys e.txn) (is_entry_of txn.id) (with_vote (vote_of state)) (λ e q. q) (entries_at c r) (each-at (EntriesIn keys) [] tt r c.records h.records))
+            (Each-change (is_entry_of txn.id) (with_vote (vote_of state)) (λ (e : Entry). TxnIn keys e.txn) (λ e _ q. q) (entries_at c r) (each_at (EntriesIn keys) c.records r [] h.records tt))
             c.records h.records;
         work = tt;
       }
@@ -625,7 +595,7 @@ module _ (f keys : ℕ) (c : ColumnState) (h : ColumnIn (members f) keys c) wher
   answered-in : (answer : Answer) (work : Work) → WorkIn (members f) keys work → In (answered answer work c)
   answered-in answer Idle k = h
   answered-in answer (Fetching id replica key) k =
-      record { attempts = each-change (AttemptIn (members f) keys) (is_attempt id) (with_read key answer) (read-more key answer k.1) c.attempts h.attempts; link = h.link; records = h.records; work = tt }
+      record { attempts = Each-change (is_attempt id) (with_read key answer) (AttemptIn (members f) keys) (λ x _. (read-more key answer k.1) x) c.attempts h.attempts; link = h.link; records = h.records; work = tt }
   answered-in answer (Validating txn r epoch state) k =
       validated-in txn r epoch (after_answer state answer) (next_act (after_answer state answer)) k.0 (after-in keys state answer k.1)
   answered-in answer (Finishing r []) k = record { attempts = h.attempts; link = h.link; records = h.records; work = tt }
@@ -670,7 +640,7 @@ module _ (f keys : ℕ) (c : ColumnState) (h : ColumnIn (members f) keys c) wher
   ended-in : In (reading_ended c)
   ended-in =
       record {
-        attempts = each-map (AttemptIn (members f) keys) (AttemptIn (members f) keys) not_reading (λ a k. record { replica = λ r. absurd (cc r); reads = k.reads; txn = k.txn }) c.attempts h.attempts;
+        attempts = Each-map (AttemptIn (members f) keys) (AttemptIn (members f) keys) not_reading (λ a k. record { replica = λ r. absurd (cc r); reads = k.reads; txn = k.txn }) c.attempts h.attempts;
         link = h.link;
         records = h.records;
         work = h.work;

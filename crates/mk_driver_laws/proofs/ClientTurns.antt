@@ -3,11 +3,16 @@ use Rattle.std.proofs.Common.{arith, ◌+◌, zero, suc, ◌<◌, cond, ◌≡�
 use Rattle.std.specs.Prelude.{find, slice_set, replicate, option_map, ◌==◌, ◌-◌, is_some, is_none, slice_get}
 use Rattle.std.proofs.lemmas.Bool.Decides.{nat_tests}
 use Rattle.std.proofs.lemmas.List.{length-append, length-replicate}
+use Rattle.std.proofs.lemmas.Bool.{and_parts}
 use Rattle.mk_lists.specs.Changed.{change}
 use Rattle.mk_lists.specs.Among.{Each}
+use Rattle.mk_lists.proofs.Changes.{find-change}
+use Rattle.mk_lists.proofs.Places.{slice_get-set_same}
+use Rattle.mk_quorum.proofs.Slots.{passes-at}
 use Rattle.mk_txn.specs.declared.TxnId.{TxnId}
 use Rattle.mk_txn.specs.declared.Outcome.{Outcome}
 use Rattle.mk_txn.specs.Transactions.{same_id}
+use Rattle.mk_txn.proofs.IdOrder.{same_id-tells}
 use Rattle.mk_words.specs.declared.Ruling.{Ruling}
 use Rattle.mk_words.specs.declared.Ruling.TheVariants.{Fast, Propose, Learned, Short, Unaccepted}
 use Rattle.mk_words.specs.Rulings.{CoordState, ruling}
@@ -31,7 +36,7 @@ use Rattle.mk_driver.specs.Delivery.{follow_ups}
 use Rattle.mk_driver.specs.Stages.{Turn, turn_of, turn_by, begin_next, begin_of, begin_by, reader_for, next_request, without_request_by, without_request, begun, resting, left, ruled_by, closed_by, stage_three, stage_four, validated, stage_after}
 use Rattle.mk_driver.specs.Stages.Turn.{Nothing, Silent, Steps}
 use Rattle.mk_driver_laws.proofs.Sure.{IsSureWithPlace}
-use Rattle.mk_driver_laws.proofs.Lookups.{find-change, same_id-tells, there, passes-at, and_left, and_right}
+use Rattle.mk_driver_laws.proofs.Lookups.{passes-from_some}
 use Rattle.mk_driver_laws.proofs.Conditions.{none_fails}
 use Rattle.mk_driver_laws.proofs.ColumnMoves.{stops, validates, ColumnFits, stays_unsent}
 use Rattle.mk_driver_laws.proofs.Beginnings.{begin_sure, unread_sure}
@@ -67,17 +72,12 @@ found_there (y ∷ ys) (suc place) x r e =
     below_place (w ∷ zs) zero z n h q = let same : w ≡ z = cc q in subst (λ (v : Caller). n < v.number) same h.0
     below_place (w ∷ zs) (suc p) z n h q = below_place zs p z n h.1 q
 
-set_there : {X : Type 0} (xs : List X) (place : ℕ) (x : X) → place < length xs → slice_get (slice_set xs place x) place ≡ Some x
-set_there [] place x h = absurd (omega (arith, h))
-set_there (y ∷ ys) zero x h = refl
-set_there (y ∷ ys) (suc place) x h = set_there ys place x (omega (arith, h))
-
 -- what is asked for of an attempt that is begun
 trial_begun : (seq : ℕ) (caller : Caller) (request : Request) (xs : List Caller) → find (is_caller caller.number) xs ≡ Some caller → next_request caller ≡ Some request →
     trial_by seq (find (is_caller caller.number) (change (is_caller caller.number) (begun seq) xs)) ≡ Some request
 trial_begun seq caller request xs found q =
     ap (trial_by seq) (find-change (is_caller caller.number) (begun seq) xs (λ x. ap (λ (n : ℕ). n == caller.number) (kept_by x.retries x).0) ∙ ap (option_map (begun seq)) found)
-    ∙ ap asked (set_there places seq (next_request caller) room) ∙ q
+    ∙ ap asked (slice_get-set_same places seq (next_request caller) room) ∙ q
   where
     trials : List (Option Request)
     trials = (without_request caller).trials
@@ -145,10 +145,10 @@ module _ (rules : RuleLines) (round : Setting) (c : ColumnState) (k : ColumnFits
       by true q = inr (sym (same_id-tells id other q))
 
   live_stamped : (id : TxnId) (a : AttemptState) → attempt_of c id ≡ Some a → IsLive c id → on_attempt c id is_stamped ≡ true
-  live_stamped id a e h = passes-at is_stamped (attempt_of c id) a e (and_left (is_some a.txn) (not a.stopped) (there is_live (attempt_of c id) a e h))
+  live_stamped id a e h = passes-from_some is_stamped (attempt_of c id) a e (and_parts (is_some a.txn) (not a.stopped) (passes-at is_live (attempt_of c id) a e h)).0
 
   live_going : (id : TxnId) (a : AttemptState) → attempt_of c id ≡ Some a → IsLive c id → IsGoing c id
-  live_going id a e h = passes-at is_going (attempt_of c id) a e (and_right (is_some a.txn) (not a.stopped) (there is_live (attempt_of c id) a e h))
+  live_going id a e h = passes-from_some is_going (attempt_of c id) a e (and_parts (is_some a.txn) (not a.stopped) (passes-at is_live (attempt_of c id) a e h)).1
 
   validate_enabled : (id : TxnId) (a : AttemptState) → attempt_of c id ≡ Some a → IsLive c id → IsUnsent c id → blocked round c (Validate id) ≡ None
   validate_enabled id a e h u =
@@ -158,7 +158,7 @@ module _ (rules : RuleLines) (round : Setting) (c : ColumnState) (k : ColumnFits
           live_stamped id a e h,
           (
             live_going id a e h,
-            (passes-at (λ x. is_none x.coord.proposed && is_none x.coord.learned) (attempt_of c id) a e clean, tt),
+            (passes-from_some (λ x. is_none x.coord.proposed && is_none x.coord.learned) (attempt_of c id) a e clean, tt),
           ),
         ),
       )
@@ -196,8 +196,8 @@ module _ (rules : RuleLines) (round : Setting) (c : ColumnState) (k : ColumnFits
           (
             live_going id a e h,
             (
-              passes-at (λ x. is_none x.coord.learned) (attempt_of c id) a e (ap is_none l),
-              (passes-at (λ x. acts_on (ruling round.faults x.coord)) (attempt_of c id) a e (ap acts_on q ∙ t), tt),
+              passes-from_some (λ x. is_none x.coord.learned) (attempt_of c id) a e (ap is_none l),
+              (passes-from_some (λ x. acts_on (ruling round.faults x.coord)) (attempt_of c id) a e (ap acts_on q ∙ t), tt),
             ),
           ),
         ),

@@ -2,11 +2,16 @@
 use Rattle.std.proofs.Common.{◌≡◌, ◌⊎◌, ◌∙◌, ◌<◌, ◌≤◌, ℕ, Bool, true, false, refl, sym, subst, ap, arith, inl, inr, List, [], ◌∷◌, ◌++◌, Option, Some, None, ◌&&◌, ◌||◌}
 use Rattle.std.specs.Prelude.{is_some}
 use Rattle.std.specs.List.{list_any}
+use Rattle.std.proofs.lemmas.Option.{same_Some}
+use Rattle.std.proofs.lemmas.List.Folds.{list_any-append}
 use Rattle.mk_lists.specs.Among.{Each, Each-append, Each-weaker}
+use Rattle.mk_lists.proofs.Tests.{list_any-append_left}
 use Rattle.mk_txn.specs.declared.TxnId.{TxnId}
 use Rattle.mk_txn.specs.Transactions.{Transaction, same_id}
+use Rattle.mk_txn.proofs.IdOrder.{same_id-tells}
 use Rattle.mk_words.specs.declared.Msg.{Msg}
 use Rattle.mk_quorum.specs.Slots.{passes}
+use Rattle.mk_quorum.proofs.Slots.{passes-some}
 use Rattle.mk_words.specs.Validations.{next_act, validation_of}
 use Rattle.mk_words.specs.Rulings.{new_coord}
 use Rattle.mk_words.specs.declared.Step.{Step}
@@ -14,7 +19,7 @@ use Rattle.mk_words.specs.declared.Step.TheVariants.{Stop, Validate}
 use Rattle.mk_model.specs.ColumnState.{ColumnState, AttemptState, TakeoverOf, ClientState, Work, attempt_of, client_of, takeover_of}
 use Rattle.mk_model.specs.ColumnState.Work.{Idle, Fetching, Validating, Finishing}
 use Rattle.mk_model.specs.Conditions.{is_validate_of, is_stamped, on_attempt}
-use Rattle.mk_driver_laws.proofs.Lookups.{same_id-tells, passes-some, passes-at, some_same, any-append, any-left, any-neither, any-none}
+use Rattle.mk_driver_laws.proofs.Lookups.{passes-from_some, any-neither, any-none}
 
 -- a Validate of the attempt was sent
 abbrev pub WasSent : List Msg → TxnId → Type 0
@@ -91,7 +96,7 @@ none_some x e = absurd (cc e)
 
 module _ (f : ℕ) (c new : ColumnState) (step : Step) (k : ColumnFits f c) (m : Moves f c new step) where
   pub stays_sent : (id : TxnId) → WasSent c.link id → WasSent new.link id
-  stays_sent id e = subst (λ (l : List Msg). WasSent l id) (sym m.link) (any-left (is_validate_of id) c.link m.messages e)
+  stays_sent id e = subst (λ (l : List Msg). WasSent l id) (sym m.link) (list_any-append_left (is_validate_of id) c.link m.messages e)
 
   -- of which no Validate was sent before, and not by this step
   pub stays_unsent : (id : TxnId) → validates step id ≡ false → list_any (is_validate_of id) c.link ≡ false → list_any (is_validate_of id) new.link ≡ false
@@ -108,7 +113,7 @@ module _ (f : ℕ) (c new : ColumnState) (step : Step) (k : ColumnFits f c) (m :
       by (Stays s) = subst (λ (o : Option AttemptState). passes is_stamped o ≡ true) (sym s) e
       by (Begins a o n t q) = let p = passes-some is_stamped (attempt_of c id) e in none_some p.0 (sym o ∙ p.1)
       by (Changes a b o n h) =
-          passes-at is_stamped (attempt_of new id) b n (h.txn (subst (λ (x : Option AttemptState). passes is_stamped x ≡ true) o e))
+          passes-from_some is_stamped (attempt_of new id) b n (h.txn (subst (λ (x : Option AttemptState). passes is_stamped x ≡ true) o e))
 
   attempt_fits : (id : TxnId) (b : AttemptState) → attempt_of new id ≡ Some b → AttemptFits f new.link id b
   attempt_fits id b e = by (m.attempts id)
@@ -119,11 +124,11 @@ module _ (f : ℕ) (c new : ColumnState) (step : Step) (k : ColumnFits f c) (m :
       by : AttemptMove f c.link (stops step id) id (attempt_of c id) (attempt_of new id) → AttemptFits f new.link id b
       by (Stays s) = more b (k.attempts id b (sym s ∙ e))
       by (Begins a o n t q) =
-          let same : a ≡ b = some_same a b (sym n ∙ e) in
+          let same : a ≡ b = same_Some a b (sym n ∙ e) in
           subst (λ (x : AttemptState). AttemptFits f new.link id x) same
           (record { coord = inl q; acts = λ txn j. none_some txn (sym t ∙ j) })
       by (Changes a d o n h) =
-          let same : d ≡ b = some_same d b (sym n ∙ e) in
+          let same : d ≡ b = same_Some d b (sym n ∙ e) in
           let was = k.attempts id a o in
           subst (λ (x : AttemptState). AttemptFits f new.link id x) same
           (record {
@@ -160,7 +165,7 @@ module _ (f : ℕ) (c new : ColumnState) (step : Step) (k : ColumnFits f c) (m :
   stamped_all : (id : TxnId) → WasSent new.link id → on_attempt new id is_stamped ≡ true
   stamped_all id e =
       by (list_any (is_validate_of id) c.link) refl (list_any (is_validate_of id) m.messages) refl
-      (sym (any-append (is_validate_of id) c.link m.messages) ∙ subst (λ (l : List Msg). WasSent l id) m.link e)
+      (sym (list_any-append (is_validate_of id) c.link m.messages) ∙ subst (λ (l : List Msg). WasSent l id) m.link e)
     where
       by : (p : Bool) → list_any (is_validate_of id) c.link ≡ p → (q : Bool) → list_any (is_validate_of id) m.messages ≡ q →
           (list_any (is_validate_of id) c.link || list_any (is_validate_of id) m.messages) ≡ true → on_attempt new id is_stamped ≡ true

@@ -1,11 +1,17 @@
 -- What each enabled step does to a column.
 use Rattle.std.proofs.Common.{◌≡◌, ◌⊎◌, ◌∙◌, ◌<◌, ◌≤◌, ℕ, ◌+◌, Bool, true, false, refl, sym, subst, ap, arith, inl, inr, List, [], ◌∷◌, ◌++◌, Option, Some, None, ◌&&◌}
 use Rattle.std.specs.Prelude.{is_some, find, option_map, ◌==◌}
+use Rattle.std.proofs.lemmas.Option.{same_Some}
+use Rattle.std.proofs.lemmas.Bool.{and_parts}
+use Rattle.std.proofs.lemmas.List.{append-nil}
 use Rattle.mk_lists.specs.Among.{Each}
 use Rattle.mk_lists.specs.Changed.{change}
+use Rattle.mk_lists.proofs.Lookups.{find_push, find_push_cases, find_push_other}
+use Rattle.mk_lists.proofs.Changes.{find-change}
 use Rattle.mk_txn.specs.declared.TxnId.{TxnId}
 use Rattle.mk_txn.specs.declared.Outcome.{Outcome}
 use Rattle.mk_txn.specs.Transactions.{Transaction, same_id}
+use Rattle.mk_txn.proofs.IdOrder.{same_id-tells}
 use Rattle.mk_words.specs.declared.Msg.{Msg}
 use Rattle.mk_words.specs.declared.Body.TheVariants.{Accept, Decide, Ask}
 use Rattle.mk_words.specs.declared.Ruling.{Ruling}
@@ -18,7 +24,7 @@ use Rattle.mk_words.specs.declared.Step.TheVariants.{Rule, Again, Takeover, Pick
 use Rattle.mk_model.specs.ColumnState.{ColumnState, AttemptState, TakeoverOf, ClientState, Learning, attempt_of, client_of, takeover_of, is_attempt, is_client, is_takeover, change_client, send, to_all}
 use Rattle.mk_model.specs.Conditions.{is_stamped, on_attempt, acts_on}
 use Rattle.mk_model.specs.Steps.{on_some, begun, next_id, with_attempt, ruled, taught, proposing, taken_over, picked, closing, takeover_proposing}
-use Rattle.mk_driver_laws.proofs.Lookups.{same_id-tells, some_same, find-pushed, find-push, find-push_other, find-change, changed_from, and_left}
+use Rattle.mk_driver_laws.proofs.Lookups.{changed_from}
 use Rattle.mk_driver_laws.proofs.ColumnMoves.{WasSent, stops, validates, ColumnFits, AttemptKept, AttemptMove, MessageFits, Moves}
 use Rattle.mk_driver_laws.proofs.ColumnMoves.AttemptMove.{Stays, Begins}
 use Rattle.mk_driver_laws.proofs.StepParts.{to_all_fit, new_rules_nothing, moves_by, moves_plain, moves_changed}
@@ -26,10 +32,6 @@ use Rattle.mk_driver_laws.proofs.StepParts.{to_all_fit, new_rules_nothing, moves
 -- a column where this was learned
 abbrev pub with_learned : List Learning → ColumnState → ColumnState
 with_learned l c = record c { learned = l }
-
-pub append_nothing : {X : Type 0} (xs : List X) → xs ≡ xs ++ []
-append_nothing [] = refl
-append_nothing (x ∷ xs) = ap (λ ys. x ∷ ys) (append_nothing xs)
 
 -- an attempt that keeps its transaction and its coordinator
 pub same_attempt : (link : List Msg) (b : Bool) (id : TxnId) (a d : AttemptState) → d.txn ≡ a.txn → d.coord ≡ a.coord → d.stopped ≡ a.stopped → AttemptKept link b id a d
@@ -44,7 +46,7 @@ sent_attempt link b id a d t w s =
 module _ (f : ℕ) (c : ColumnState) (k : ColumnFits f c) (l : List Learning) where
   -- nothing is done
   pub nothing_moves : (step : Step) → ((id : TxnId) → validates step id ≡ true → WasSent c.link id) → Moves f c (with_learned l c) step
-  nothing_moves step v = moves_plain f c (with_learned l c) step k refl refl refl [] (append_nothing c.link) tt v k.work
+  nothing_moves step v = moves_plain f c (with_learned l c) step k refl refl refl [] ((sym (append-nil c.link))) tt v k.work
 
   -- ---- beginning
 
@@ -62,7 +64,7 @@ module _ (f : ℕ) (c : ColumnState) (k : ColumnFits f c) (l : List Learning) wh
       record {
         attempts = λ id. move id (same_id a.id id) refl;
         messages = [];
-        link = append_nothing c.link;
+        link = (sym (append-nil c.link));
         fit = tt;
         validated = λ id w. absurd (cc (sym (v id) ∙ w));
         takeovers = k.takeovers;
@@ -79,8 +81,8 @@ module _ (f : ℕ) (c : ColumnState) (k : ColumnFits f c) (l : List Learning) wh
       move id true s =
           let same = same_id-tells a.id id s in
           let none : attempt_of c id ≡ None = sym (ap (attempt_of c) same) ∙ free in
-          Begins a none (find-pushed (is_attempt id) c.attempts a none s) t q
-      move id false s = Stays (find-push_other (is_attempt id) c.attempts a s)
+          Begins a none (find_push (is_attempt id) c.attempts a none s) t q
+      move id false s = Stays (find_push_other (is_attempt id) c.attempts a s)
 
       counted : (n : ℕ) (d : ClientState) → (x : ClientState) × (find (is_client n) c.clients ≡ Some x) × ((d ≡ x) ⊎ (d ≡ begun epoch x)) →
           (before : ClientState) × (client_of c n ≡ Some before) × (before.next_seq ≤ d.next_seq)
@@ -98,7 +100,7 @@ module _ (f : ℕ) (c : ColumnState) (k : ColumnFits f c) (l : List Learning) wh
       first id b o n d g = by (same_id a.id id) refl
         where
           by : (z : Bool) → same_id a.id id ≡ z → id.seq < d.next_seq
-          by false s = absurd (cc (sym (find-push_other (is_attempt id) c.attempts a s ∙ o) ∙ n))
+          by false s = absurd (cc (sym (find_push_other (is_attempt id) c.attempts a s ∙ o) ∙ n))
           by true s =
               let same : next_id cl ≡ id = sym i ∙ same_id-tells a.id id s in
               let owner : cl.number ≡ id.client = ap (λ (x : TxnId). x.client) same in
@@ -107,7 +109,7 @@ module _ (f : ℕ) (c : ColumnState) (k : ColumnFits f c) (l : List Learning) wh
               find-change (is_client cl.number) (begun epoch) c.clients (λ x. refl) ∙ ap (option_map (begun epoch)) e in
               let found_here : find (is_client id.client) (change (is_client cl.number) (begun epoch) c.clients) ≡ Some (begun epoch cl) =
               subst (λ (n : ℕ). find (is_client n) (change (is_client cl.number) (begun epoch) c.clients) ≡ Some (begun epoch cl)) owner found in
-              let is : begun epoch cl ≡ d = some_same (begun epoch cl) d (sym found_here ∙ g) in
+              let is : begun epoch cl ≡ d = same_Some (begun epoch cl) d (sym found_here ∙ g) in
               let next : cl.next_seq + 1 ≡ d.next_seq = ap (λ (y : ClientState). y.next_seq) is in
               omega (arith, place, next)
 
@@ -165,9 +167,9 @@ module _ (f : ℕ) (c : ColumnState) (k : ColumnFits f c) (l : List Learning) wh
     where
       begun_after : (i : TxnId) (v : ℕ) (t : TakeoverOf) → takeover_of (taken_over f view a c) i v ≡ Some t → WasSent c.link i
       begun_after i v t e =
-          elim (find-push (is_takeover i v) c.takeovers _ t e) [
+          elim (find_push_cases (is_takeover i v) c.takeovers _ t e) [
             | inl old ↦ k.takeovers i v t old
-            | inr new ↦ subst (λ (x : TxnId). WasSent c.link x) (same_id-tells a.id i (and_left (same_id a.id i) (view == v) new.1.1)) w
+            | inr new ↦ subst (λ (x : TxnId). WasSent c.link x) (same_id-tells a.id i (and_parts (same_id a.id i) (view == v) new.1.1).0) w
           ]
 
   -- ---- picks

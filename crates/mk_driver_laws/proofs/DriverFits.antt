@@ -17,6 +17,7 @@ use Rattle.mk_driver.specs.declared.Stage.{Stage}
 use Rattle.mk_driver.specs.Keeping.{IsRising, numbers_of}
 use Rattle.mk_driver.specs.Agenda.{is_caller}
 use Rattle.mk_driver.specs.Stages.{resting, at_stage}
+use Rattle.mk_driver_laws.proofs.Lookups.{member-slice_get}
 use Rattle.mk_driver_laws.proofs.ColumnMoves.{stops, validates}
 use Rattle.mk_driver_laws.proofs.Reading.{NoneReads, OneReads}
 use Rattle.mk_driver_laws.proofs.Frames.{IsReading, IsGoing, IsLive, IsUnsent}
@@ -235,17 +236,12 @@ callers_at c stage xs s h = Each-change (is_caller stage.id.client) (at_stage st
     own : (x : Caller) → is_caller stage.id.client x ≡ true → stage.id.client ≡ x.number
     own x t = grind (arith, nat_tests, t)
 
-each_numbers : (P : ℕ → Type 0) (xs : List Caller) → Each P (numbers_of xs) → Each (λ (x : Caller). P x.number) xs
+pub each_numbers : (P : ℕ → Type 0) (xs : List Caller) → Each P (numbers_of xs) → Each (λ (x : Caller). P x.number) xs
 each_numbers P [] h = tt
 each_numbers P (x ∷ xs) h = (h.0, each_numbers P xs h.1)
 
-at_place : (P : Caller → Type 0) (xs : List Caller) (place : ℕ) (x : Caller) → Each P xs → slice_get xs place ≡ Some x → P x
-at_place P [] place x h e = absurd (cc e)
-at_place P (y ∷ ys) zero x h e = let same : y ≡ x = cc e in subst P same h.0
-at_place P (y ∷ ys) (suc place) x h e = at_place P ys place x h.1 e
-
 pub caller_at : (c : ColumnState) (xs : List Caller) (place : ℕ) (x : Caller) → Each (CallerFits c) xs → slice_get xs place ≡ Some x → CallerFits c x
-caller_at c xs place x h e = at_place (CallerFits c) xs place x h e
+caller_at c xs place x h e = member-slice_get (CallerFits c) xs place x h e
 
 -- the client at this place rests, and there is no other of its number
 pub rests_there : (xs : List Caller) (place : ℕ) (x : Caller) → IsRising (numbers_of xs) → slice_get xs place ≡ Some x → x.under_way ≡ None → RestsAt x.number xs
@@ -257,7 +253,7 @@ rests_there (y ∷ ys) zero x r e u =
           (λ z below q. (let there : y.number ≡ x.number = ap (λ (w : Caller). w.number) same in absurd (omega (arith, below, q, there)))) ys (each_numbers (λ m. y.number < m) ys r.0),
     )
 rests_there (y ∷ ys) (suc place) x r e u =
-    let below : y.number < x.number = at_place (λ (z : Caller). y.number < z.number) ys place x (each_numbers (λ m. y.number < m) ys r.0) e in
+    let below : y.number < x.number = member-slice_get (λ (z : Caller). y.number < z.number) ys place x (each_numbers (λ m. y.number < m) ys r.0) e in
     ((λ q. absurd (omega (arith, below, q))), rests_there ys place x r.1 e u)
 
 -- ---- steps

@@ -4,6 +4,8 @@ use Rattle.std.specs.Prelude.{is_some, nat_le, nat_lt, slice_get, ◌==◌}
 use Rattle.std.specs.List.{list_any, list_all}
 use Rattle.std.proofs.lemmas.Bool.Decides.{nat_tests}
 use Rattle.std.proofs.lemmas.List.{length-map}
+use Rattle.std.proofs.lemmas.Bool.{and_from, le-leb, not_from_false}
+use Rattle.mk_model.proofs.Parts.{attempt_of-id}
 use Rattle.mk_txn.specs.declared.TxnId.{TxnId}
 use Rattle.mk_txn.specs.declared.ReadItem.{ReadItem}
 use Rattle.mk_txn.specs.declared.Stamp.{Stamp as StampType}
@@ -27,12 +29,11 @@ use Rattle.mk_driver.specs.Agenda.{trial_of}
 use Rattle.mk_driver.specs.Stages.{fetch_by, fetching}
 use Rattle.mk_driver.specs.Turns.{Choice, or_next}
 use Rattle.mk_driver_laws.specs.Enabled.{IsSure}
-use Rattle.mk_driver_laws.proofs.Lookups.{and_both, not_false, passes-at}
+use Rattle.mk_driver_laws.proofs.Lookups.{passes-from_some}
 use Rattle.mk_driver_laws.proofs.Conditions.{none_fails}
 use Rattle.mk_driver_laws.proofs.ColumnMoves.{ColumnFits, stays_unsent}
 use Rattle.mk_driver_laws.proofs.Frames.{read_keeps, link_grows, stays_going, stamped_live}
 use Rattle.mk_driver_laws.proofs.Reading.{OneReads, step_reads, stamped_none}
-use Rattle.mk_driver_laws.proofs.Taking.{own_id}
 use Rattle.mk_driver_laws.proofs.Requests.{RequestFits}
 use Rattle.mk_driver_laws.proofs.Asked.{TrialFits}
 use Rattle.mk_driver_laws.proofs.ItemLaws.{IsFirst, IsNext, WritesFit, is_next, some_work, writes_fit_items}
@@ -46,7 +47,7 @@ use Rattle.mk_driver_laws.proofs.Named.{ChoiceFits}
 read_sure : (round : Setting) (c : ColumnState) (id : TxnId) (a : AttemptState) (request : Request) (key : ℕ) → is_idle c.work ≡ true → on_attempt c id (λ x. x.reading) ≡ true →
     attempt_of c id ≡ Some a → RequestFits round.keys request → IsFirst (read_keys a.reads ++ key ∷ []) (wanted_keys request.items) → blocked round c (Read id key) ≡ None
 read_sure round c id a request key idle reading e fits first =
-    none_fails 1 (conditions round c (Read id key)) (idle, (reading, (there, (passes-at (may_read key) (attempt_of c id) a e may, tt))))
+    none_fails 1 (conditions round c (Read id key)) (idle, (reading, (there, (passes-from_some (may_read key) (attempt_of c id) a e may, tt))))
   where
     next : IsNext round.keys request.items a.reads key
     next = is_next round.keys request.items a.reads key fits.known first
@@ -64,7 +65,7 @@ read_sure round c id a request key idle reading e fits first =
     may : may_read key a ≡ true
     may =
         let room : nat_lt (length a.reads) 16 ≡ true = (let f = fewer in grind (arith, nat_tests, f)) in
-        and_both (not (list_any (λ item. item.key == key) a.reads)) (nat_lt (length a.reads) 16) (not_false (list_any (λ item. item.key == key) a.reads) next.new) room
+        and_from (not (list_any (λ item. item.key == key) a.reads)) (nat_lt (length a.reads) 16) (not_from_false (list_any (λ item. item.key == key) a.reads) next.new) room
 
 -- ---- a stamp
 
@@ -89,9 +90,6 @@ four_or_all true true true false q s e f g h i = absurd (cc h)
 four_or_all true true false p q s e f g h i = absurd (cc g)
 four_or_all true false w p q s e f g h i = absurd (cc f)
 four_or_all false b w p q s e f g h i = absurd (cc e)
-
-le_test : (n m : ℕ) → n ≤ m → nat_le n m ≡ true
-le_test n m h = grind (arith, nat_tests, h)
 
 -- where no key is left to read, all that are wanted were read
 all_read : (keys read : List ℕ) → IsFirst read keys → slice_get keys (length read) ≡ None → length keys ≤ length read
@@ -120,7 +118,7 @@ stamp_sure round c id a request client idle reading e known fits first end =
     are_fit : writes_fit round.keys writes ≡ true
     are_fit =
         let short : length writes ≤ 16 = (let one = fit.few in let few = fits.few in omega (arith, one, few)) in
-        three (nat_le (length writes) 16) (are_distinct (write_keys writes)) (list_all (λ item. nat_lt item.key round.keys) writes) (le_test (length writes) 16 short) fit.distinct fit.known
+        three (nat_le (length writes) 16) (are_distinct (write_keys writes)) (list_all (λ item. nat_lt item.key round.keys) writes) (le-leb (length writes) 16 short) fit.distinct fit.known
       where
         three : (x y z : Bool) → x ≡ true → y ≡ true → z ≡ true → (x && y && z) ≡ true
         three true true z h i j = j
@@ -135,15 +133,15 @@ stamp_sure round c id a request client idle reading e known fits first end =
 
     at_client : (b : Bool) → is_some (next_stamp_of client.number client.last_time request.clock a.reads) ≡ b → on_attempt c id (λ x. stamp_exists c x request.clock) ≡ b
     at_client b q =
-        ap (passes (λ x. stamp_exists c x request.clock)) e ∙ ap (λ (i : TxnId). passes (λ x. is_some (next_stamp_of x.number x.last_time request.clock a.reads)) (client_of c i.client)) (own_id c id a e)
+        ap (passes (λ x. stamp_exists c x request.clock)) e ∙ ap (λ (i : TxnId). passes (λ x. is_some (next_stamp_of x.number x.last_time request.clock a.reads)) (client_of c i.client)) (attempt_of-id c id a e)
         ∙ ap (passes (λ x. is_some (next_stamp_of x.number x.last_time request.clock a.reads))) known ∙ q
 
     all : (on_attempt c id (λ x. stamp_exists c x request.clock) ≡ true → blocked round c (Stamp id request.clock writes) ≡ None)
         × (on_attempt c id (λ x. stamp_exists c x request.clock) ≡ false → blocked round c (Stamp id request.clock writes) ≡ Some 4)
     all =
         four_or_all (is_idle c.work) (on_attempt c id (λ x. x.reading)) (writes_fit round.keys writes) (nat_le request.clock (2 ^ 61)) (on_attempt c id (λ x. stamp_exists c x request.clock))
-        (on_attempt c id (λ x. nat_lt 0 (length x.reads + length writes))) idle reading are_fit (le_test request.clock (2 ^ 61) fits.early)
-        (passes-at (λ x. nat_lt 0 (length x.reads + length writes)) (attempt_of c id) a e (let some = something in grind (arith, nat_tests, some)))
+        (on_attempt c id (λ x. nat_lt 0 (length x.reads + length writes))) idle reading are_fit (le-leb request.clock (2 ^ 61) fits.early)
+        (passes-from_some (λ x. nat_lt 0 (length x.reads + length writes)) (attempt_of c id) a e (let some = something in grind (arith, nat_tests, some)))
 
 -- ---- what follows
 

@@ -3,14 +3,20 @@ use Rattle.std.proofs.Common.{◌≡◌, ◌∙◌, ◌≤◌, ℕ, ◌^◌, Boo
 use Rattle.std.specs.Prelude.{is_some, find, option_map, slice_get, nat_le}
 use Rattle.std.specs.List.{list_any}
 use Rattle.std.proofs.lemmas.List.{length-append}
+use Rattle.std.proofs.lemmas.Bool.{and_from, and_parts, eqb-true}
 use Rattle.mk_lists.specs.Changed.{change}
+use Rattle.mk_lists.proofs.Lookups.{find-passes, find_push}
+use Rattle.mk_lists.proofs.Changes.{find-change}
+use Rattle.mk_model.proofs.Parts.{attempt_of-id}
 use Rattle.mk_txn.specs.declared.TxnId.{TxnId}
 use Rattle.mk_txn.specs.Transactions.{Transaction}
 use Rattle.mk_txn.specs.declared.Stamp.{Stamp as StampType}
 use Rattle.mk_txn.specs.declared.WriteItem.{WriteItem}
 use Rattle.mk_txn.specs.Stamps.{next_stamp_of}
+use Rattle.mk_txn.proofs.IdOrder.{same_id-itself}
 use Rattle.mk_words.specs.declared.Msg.{Msg}
 use Rattle.mk_quorum.specs.Slots.{passes}
+use Rattle.mk_quorum.proofs.Slots.{passes-at, passes-some}
 use Rattle.mk_words.specs.declared.Answer.{Answer}
 use Rattle.mk_words.specs.Checks.{KeyAct}
 use Rattle.mk_words.specs.Validations.{ValidationState, next_act, after_answer}
@@ -21,12 +27,11 @@ use Rattle.mk_model.specs.ColumnState.{Setting, ColumnState, AttemptState, Clien
 use Rattle.mk_model.specs.ColumnState.Work.{Idle, Fetching, Validating, Finishing}
 use Rattle.mk_model.specs.Conditions.{blocked, conditions, is_idle, wanted, is_validate_of, is_stamped, on_attempt, stamp_exists}
 use Rattle.mk_model.specs.Steps.{answered, validated, with_read, on_some, beginning, next_id, new_attempt, epoch_of, stamping, stamped, with_txn, column_after}
-use Rattle.mk_driver_laws.proofs.Lookups.{same_id-itself, there, passes-some, passes-at, find-passes, find-pushed, find-change, eqb-tells, and_left, and_right, and_both}
-use Rattle.mk_driver_laws.proofs.Conditions.{all_hold}
+use Rattle.mk_driver_laws.proofs.Lookups.{passes-from_some}
+use Rattle.mk_model.proofs.Frames.{AllTrue, AllTrue-from_first_failing}
 use Rattle.mk_driver_laws.proofs.ColumnMoves.{stops, ColumnFits, WorkFits, AttemptMove, Moves}
 use Rattle.mk_driver_laws.proofs.ColumnMoves.AttemptMove.{Stays, Begins, Changes}
 use Rattle.mk_driver_laws.proofs.ColumnSteps.{fresh_id}
-use Rattle.mk_driver_laws.proofs.Taking.{own_id}
 
 -- the attempt is not stopped
 abbrev pub is_going : AttemptState → Bool
@@ -79,8 +84,8 @@ module _ (f : ℕ) (c new : ColumnState) (step : Step) (m : Moves f c new step) 
       by (Stays q) = subst (λ (o : Option AttemptState). passes is_going o ≡ true) (sym q) e
       by (Begins a o n t q) = let p = passes-some is_going (attempt_of c id) e in absurd (cc (sym o ∙ p.1))
       by (Changes a b o n h) =
-          let was = there is_going (attempt_of c id) a o e in
-          passes-at is_going (attempt_of new id) b n (ap not (h.stopped s) ∙ was)
+          let was = passes-at is_going (attempt_of c id) a o e in
+          passes-from_some is_going (attempt_of new id) b n (ap not (h.stopped s) ∙ was)
 
   pub stays_live : (id : TxnId) → stops step id ≡ false → IsLive c id → IsLive new id
   stays_live id s e = by (m.attempts id)
@@ -89,9 +94,9 @@ module _ (f : ℕ) (c new : ColumnState) (step : Step) (m : Moves f c new step) 
       by (Stays q) = subst (λ (o : Option AttemptState). passes is_live o ≡ true) (sym q) e
       by (Begins a o n t q) = let p = passes-some is_live (attempt_of c id) e in absurd (cc (sym o ∙ p.1))
       by (Changes a b o n h) =
-          let was = there is_live (attempt_of c id) a o e in
-          passes-at is_live (attempt_of new id) b n
-          (and_both (is_some b.txn) (not b.stopped) (h.txn (and_left (is_some a.txn) (not a.stopped) was)) (ap not (h.stopped s) ∙ and_right (is_some a.txn) (not a.stopped) was))
+          let was = passes-at is_live (attempt_of c id) a o e in
+          passes-from_some is_live (attempt_of new id) b n
+          (and_from (is_some b.txn) (not b.stopped) (h.txn (and_parts (is_some a.txn) (not a.stopped) was).0) (ap not (h.stopped s) ∙ (and_parts (is_some a.txn) (not a.stopped) was).1))
 
 -- the attempt that a Begin begins
 pub begun_found : (round : Setting) (c : ColumnState) → ColumnFits round.faults c → (n replica : ℕ) (cl : ClientState) → client_of c n ≡ Some cl →
@@ -100,7 +105,7 @@ pub begun_found : (round : Setting) (c : ColumnState) → ColumnFits round.fault
 begun_found round c k n replica cl e =
     subst (λ (o : Option ClientState). find (is_attempt (record { client = n; seq = cl.next_seq })) (on_some (beginning round replica epoch) o c).attempts ≡ Some (begins n)) (sym e)
     (subst (λ (m : ℕ). find (is_attempt (record { client = m; seq = cl.next_seq })) (c.attempts ++ begins cl.number ∷ []) ≡ Some (begins m)) number
-    (find-pushed (is_attempt (next_id cl)) c.attempts (begins cl.number) (fresh_id round.faults c k [] cl own) (same_id-itself (next_id cl))))
+    (find_push (is_attempt (next_id cl)) c.attempts (begins cl.number) (fresh_id round.faults c k [] cl own) (same_id-itself (next_id cl))))
   where
     epoch : ℕ
     epoch = epoch_of (slice_get round.views replica)
@@ -109,19 +114,19 @@ begun_found round c k n replica cl e =
     begins m = new_attempt round.faults (record { client = m; seq = cl.next_seq }) replica epoch
 
     number : cl.number ≡ n
-    number = eqb-tells cl.number n (find-passes (is_client n) c.clients cl e)
+    number = eqb-true cl.number n (find-passes (is_client n) c.clients cl e)
 
     own : client_of c cl.number ≡ Some cl
     own = ap (client_of c) number ∙ e
 
 pub begun_going : (round : Setting) (c : ColumnState) → ColumnFits round.faults c → (n replica : ℕ) (cl : ClientState) → client_of c n ≡ Some cl →
     IsGoing (column_after round c (Begin n replica)) (record { client = n; seq = cl.next_seq })
-begun_going round c k n replica cl e = passes-at is_going _ _ (begun_found round c k n replica cl e) refl
+begun_going round c k n replica cl e = passes-from_some is_going _ _ (begun_found round c k n replica cl e) refl
 
 -- it reads
 pub begun_reading : (round : Setting) (c : ColumnState) → ColumnFits round.faults c → (n replica : ℕ) (cl : ClientState) → client_of c n ≡ Some cl →
     IsReading (column_after round c (Begin n replica)) (record { client = n; seq = cl.next_seq })
-begun_reading round c k n replica cl e = passes-at is_reading _ _ (begun_found round c k n replica cl e) refl
+begun_reading round c k n replica cl e = passes-from_some is_reading _ _ (begun_found round c k n replica cl e) refl
 
 -- an attempt reads on while a key is read and answered
 passes_change : (test : AttemptState → Bool) (p q : AttemptState → Bool) (g : AttemptState → AttemptState) (xs : List AttemptState) → ((x : AttemptState) → q (g x) ≡ q x) →
@@ -157,7 +162,7 @@ begun_unsent f c k n cl e = by (list_any (is_validate_of (record { client = n; s
     by : (b : Bool) → list_any (is_validate_of (record { client = n; seq = cl.next_seq })) c.link ≡ b → IsUnsent c (record { client = n; seq = cl.next_seq })
     by false w = w
     by true w =
-        let number : cl.number ≡ n = eqb-tells cl.number n (find-passes (is_client n) c.clients cl e) in
+        let number : cl.number ≡ n = eqb-true cl.number n (find-passes (is_client n) c.clients cl e) in
         let own : client_of c cl.number ≡ Some cl = ap (client_of c) number ∙ e in
         let none : attempt_of c (record { client = n; seq = cl.next_seq }) ≡ None =
         ap (λ (x : ℕ). attempt_of c (record { client = x; seq = cl.next_seq })) (sym number) ∙ fresh_id f c k [] cl own in
@@ -176,21 +181,20 @@ stamped_live round c id clock writes b g = by (attempt_of c id) refl
     by None e = let p = passes-some is_going (attempt_of c id) g in absurd (cc (sym e ∙ p.1))
     by (Some a) e = subst After (sym e) (by_client (client_of c a.id.client) exists)
       where
-        h : Rattle.mk_driver_laws.proofs.Conditions.AllHold (conditions round c (Stamp id clock writes))
-        h = all_hold 1 (conditions round c (Stamp id clock writes)) b
+        h : AllTrue (conditions round c (Stamp id clock writes))
+        h = AllTrue-from_first_failing 1 (conditions round c (Stamp id clock writes)) b
 
         exists : passes (λ cl. is_some (next_stamp_of cl.number cl.last_time clock a.reads)) (client_of c a.id.client) ≡ true
-        exists = there (λ x. stamp_exists c x clock) (attempt_of c id) a e
-            (and_right (nat_le clock (2 ^ 61)) (on_attempt c id (λ x. stamp_exists c x clock)) h.1.1.1.0)
+        exists = passes-at (λ x. stamp_exists c x clock) (attempt_of c id) a e (and_parts (nat_le clock (2 ^ 61)) (on_attempt c id (λ x. stamp_exists c x clock)) h.1.1.1.0).1
 
         going : not a.stopped ≡ true
-        going = there is_going (attempt_of c id) a e g
+        going = passes-at is_going (attempt_of c id) a e g
 
         by_stamp : (s : Option StampType) → is_some s ≡ true → passes is_live (find (is_attempt id) (stamped a.id writes s c).attempts) ≡ true
         by_stamp None z = absurd (cc z)
         by_stamp (Some stamp) z =
-            passes-at is_live _ (with_txn stamp writes a)
-            (ap (λ (i : TxnId). find (is_attempt id) (change (is_attempt i) (with_txn stamp writes) c.attempts)) (own_id c id a e)
+            passes-from_some is_live _ (with_txn stamp writes a)
+            (ap (λ (i : TxnId). find (is_attempt id) (change (is_attempt i) (with_txn stamp writes) c.attempts)) (attempt_of-id c id a e)
             ∙ find-change (is_attempt id) (with_txn stamp writes) c.attempts (λ x. refl) ∙ ap (option_map (with_txn stamp writes)) e)
             going
 

@@ -4,7 +4,9 @@ use Rattle.std.specs.Prelude.{◌==◌, slice_get, nat_lt}
 use Rattle.std.specs.List.{list_any, list_all}
 use Rattle.std.proofs.lemmas.Bool.Decides.{nat_tests}
 use Rattle.std.proofs.lemmas.List.{append_assoc}
+use Rattle.std.proofs.lemmas.Bool.{and_from, and_parts, eq-eqb, eqb-true, not-true}
 use Rattle.mk_lists.specs.Among.{Among, AllDistinct, Each, Among-append_right}
+use Rattle.mk_lists.proofs.Tests.{list_any-append_left}
 use Rattle.mk_txn.specs.declared.ReadItem.{ReadItem}
 use Rattle.mk_txn.specs.declared.Value.{Value}
 use Rattle.mk_txn.specs.declared.Value.TheVariants.{Number, Absent}
@@ -16,30 +18,23 @@ use Rattle.mk_proc.specs.Items.{key_of, is_read}
 use Rattle.mk_proc.specs.Procedures.{proc_value}
 use Rattle.mk_client.specs.Wanted.{has_key, is_fetched, keys_after, wanted_keys}
 use Rattle.mk_client.specs.Computed.{Buffer, put, after_item, after_items, empty_buffer, with_value, with_write, writes_of}
-use Rattle.mk_driver_laws.proofs.Lookups.{and_left, and_right, and_both, not_true, any-left, any-right, eqb-tells}
+use Rattle.mk_client.specs.DistinctKeys.{has_key-last, length-keys_after, are_distinct-put, length-put}
 use Rattle.mk_driver_laws.proofs.Requests.{IsKnown}
 
 -- ---- keys to fetch
-
-same_key : (key : ℕ) → (key == key) ≡ true
-same_key key = grind (arith, nat_tests)
-
-last_has : (earlier : List Item) (item : Item) → has_key (key_of item) (earlier ++ item ∷ []) ≡ true
-last_has earlier item =
-    any-right (λ (x : Item). key_of x == key_of item) earlier (item ∷ []) (let same = same_key (key_of item) in grind (arith, same))
 
 -- what an earlier item reads or writes is not fetched
 not_fetched : (earlier items : List Item) (key : ℕ) → has_key key earlier ≡ true → Among key (keys_after earlier items) → ⊥
 not_fetched earlier [] key h a = a
 not_fetched earlier (item ∷ items) key h a =
-    by (is_fetched earlier item) refl (not_fetched (earlier ++ item ∷ []) items key (any-left (λ (x : Item). key_of x == key) earlier (item ∷ []) h)) a
+    by (is_fetched earlier item) refl (not_fetched (earlier ++ item ∷ []) items key (list_any-append_left (λ (x : Item). key_of x == key) earlier (item ∷ []) h)) a
   where
     later : List ℕ
     later = keys_after (earlier ++ item ∷ []) items
 
     by : (b : Bool) → is_fetched earlier item ≡ b → (Among key later → ⊥) → Among key (if b then key_of item ∷ later else later) → ⊥
     by true f rest (inl e) =
-        let new : has_key (key_of item) earlier ≡ false = not_true (has_key (key_of item) earlier) (and_right (is_read item) (not (has_key (key_of item) earlier)) f) in
+        let new : has_key (key_of item) earlier ≡ false = not-true (has_key (key_of item) earlier) (and_parts (is_read item) (not (has_key (key_of item) earlier)) f).1 in
         let there : has_key (key_of item) earlier ≡ true = subst (λ (k : ℕ). has_key k earlier ≡ true) (sym e) h in
         cc (sym new ∙ there)
     by true f rest (inr a) = rest a
@@ -48,7 +43,7 @@ not_fetched earlier (item ∷ items) key h a =
 distinct_after : (earlier items : List Item) → AllDistinct (keys_after earlier items)
 distinct_after earlier [] = tt
 distinct_after earlier (item ∷ items) =
-    by (is_fetched earlier item) (not_fetched (earlier ++ item ∷ []) items (key_of item) (last_has earlier item)) (distinct_after (earlier ++ item ∷ []) items)
+    by (is_fetched earlier item) (not_fetched (earlier ++ item ∷ []) items (key_of item) (has_key-last earlier item)) (distinct_after (earlier ++ item ∷ []) items)
   where
     later : List ℕ
     later = keys_after (earlier ++ item ∷ []) items
@@ -56,17 +51,6 @@ distinct_after earlier (item ∷ items) =
     by : (b : Bool) → (Among (key_of item) later → ⊥) → AllDistinct later → AllDistinct (if b then key_of item ∷ later else later)
     by true new rest = (new, rest)
     by false new rest = rest
-
-few_after : (earlier items : List Item) → length (keys_after earlier items) ≤ length items
-few_after earlier [] = omega arith
-few_after earlier (item ∷ items) = by (is_fetched earlier item) (few_after (earlier ++ item ∷ []) items)
-  where
-    later : List ℕ
-    later = keys_after (earlier ++ item ∷ []) items
-
-    by : (b : Bool) → length later ≤ length items → length (if b then key_of item ∷ later else later) ≤ length (item ∷ items)
-    by true rest = omega (arith, rest)
-    by false rest = omega (arith, rest)
 
 known_after : (n : ℕ) (earlier items : List Item) → Each (IsKnown n) items → Each (λ (key : ℕ). key < n) (keys_after earlier items)
 known_after n earlier [] h = tt
@@ -111,7 +95,7 @@ none_read key [] h = refl
 none_read key (item ∷ reads) h = by (item.key == key) refl (none_read key reads (λ a. h (inr a)))
   where
     by : (b : Bool) → (item.key == key) ≡ b → list_any (λ item. item.key == key) reads ≡ false → (b || list_any (λ item. item.key == key) reads) ≡ false
-    by true e rest = absurd (h (inl (eqb-tells item.key key e)))
+    by true e rest = absurd (h (inl (eqb-true item.key key e)))
     by false e rest = rest
 
 -- where a key comes next, it was not read before, it is an item's, and fewer were read than there are items
@@ -136,25 +120,12 @@ is_next n items reads key known first =
 
     shorter : (xs ys : List ℕ) → wanted_keys items ≡ xs ++ key ∷ ys → length xs < length items
     shorter xs ys e =
-        let few = few_after [] items in
+        let few = length-keys_after [] items in
         let same : length (wanted_keys items) ≡ length (xs ++ key ∷ ys) = ap length e in
         let more = longer xs ys in
         omega (arith, few, same, more)
 
 -- ---- keys to write
-
-abbrev is_among : ℕ → List ℕ → Bool
-is_among key keys = list_any (λ other. other == key) keys
-
-among_put : (key : ℕ) (value : Value) (writes : List WriteItem) (other : ℕ) → (key == other) ≡ false →
-    is_among other (write_keys (put key value writes)) ≡ is_among other (write_keys writes)
-among_put key value [] other e = grind (arith, e)
-among_put key value (item ∷ writes) other e = by (item.key == key) (among_put key value writes other e)
-  where
-    by : (b : Bool) → is_among other (write_keys (put key value writes)) ≡ is_among other (write_keys writes) →
-        is_among other (write_keys (if b then record item { value = value } ∷ writes else item ∷ put key value writes)) ≡ is_among other (write_keys (item ∷ writes))
-    by true rest = refl
-    by false rest = ap (λ (b : Bool). (item.key == other) || b) rest
 
 -- the writes of so many items
 pub record WritesFit (n count : ℕ) (writes : List WriteItem) : Type 0 where
@@ -162,46 +133,25 @@ pub record WritesFit (n count : ℕ) (writes : List WriteItem) : Type 0 where
   pub few : length writes ≤ count
   pub known : list_all (λ item. nat_lt item.key n) writes ≡ true
 
-put_distinct : (key : ℕ) (value : Value) (writes : List WriteItem) → are_distinct (write_keys writes) ≡ true → are_distinct (write_keys (put key value writes)) ≡ true
-put_distinct key value [] h = refl
-put_distinct key value (item ∷ writes) h = by (item.key == key) refl (put_distinct key value writes)
-  where
-    by : (b : Bool) → (item.key == key) ≡ b → (are_distinct (write_keys writes) ≡ true → are_distinct (write_keys (put key value writes)) ≡ true) →
-        are_distinct (write_keys (if b then record item { value = value } ∷ writes else item ∷ put key value writes)) ≡ true
-    by true e rest = h
-    by false e rest =
-        let apart : (key == item.key) ≡ false = grind (arith, nat_tests) in
-        let same = among_put key value writes item.key apart in
-        grind (arith, same, rest)
-
-put_few : (key : ℕ) (value : Value) (writes : List WriteItem) → length (put key value writes) ≤ length writes + 1
-put_few key value [] = omega arith
-put_few key value (item ∷ writes) = by (item.key == key) (put_few key value writes)
-  where
-    by : (b : Bool) → length (put key value writes) ≤ length writes + 1 →
-        length (if b then record item { value = value } ∷ writes else item ∷ put key value writes) ≤ length (item ∷ writes) + 1
-    by true rest = omega (arith, rest)
-    by false rest = omega (arith, rest)
-
 put_known : (n key : ℕ) (value : Value) (writes : List WriteItem) → nat_lt key n ≡ true → list_all (λ item. nat_lt item.key n) writes ≡ true →
     list_all (λ item. nat_lt item.key n) (put key value writes) ≡ true
-put_known n key value [] k h = and_both (nat_lt key n) true k refl
+put_known n key value [] k h = and_from (nat_lt key n) true k refl
 put_known n key value (item ∷ writes) k h = by (item.key == key) (put_known n key value writes k)
   where
     by : (b : Bool) → (list_all (λ item. nat_lt item.key n) writes ≡ true → list_all (λ item. nat_lt item.key n) (put key value writes) ≡ true) →
         list_all (λ item. nat_lt item.key n) (if b then record item { value = value } ∷ writes else item ∷ put key value writes) ≡ true
     by true rest = h
     by false rest =
-        let first = and_left (nat_lt item.key n) (list_all (λ item. nat_lt item.key n) writes) h in
-        let others = rest (and_right (nat_lt item.key n) (list_all (λ item. nat_lt item.key n) writes) h) in
-        and_both (nat_lt item.key n) (list_all (λ item. nat_lt item.key n) (put key value writes)) first others
+        let first = (and_parts (nat_lt item.key n) (list_all (λ item. nat_lt item.key n) writes) h).0 in
+        let others = rest (and_parts (nat_lt item.key n) (list_all (λ item. nat_lt item.key n) writes) h).1 in
+        and_from (nat_lt item.key n) (list_all (λ item. nat_lt item.key n) (put key value writes)) first others
 
 put_fits : (n count key : ℕ) (value : Value) (writes : List WriteItem) → key < n → WritesFit n count writes → WritesFit n (count + 1) (put key value writes)
 put_fits n count key value writes k h =
     let there : nat_lt key n ≡ true = grind (arith, nat_tests, k) in
     record {
-      distinct = put_distinct key value writes h.distinct;
-      few = (let before = h.few in let one = put_few key value writes in omega (arith, before, one));
+      distinct = are_distinct-put key value writes h.distinct;
+      few = (let before = h.few in let one = length-put key value writes in omega (arith, before, one));
       known = put_known n key value writes there h.known;
     }
 

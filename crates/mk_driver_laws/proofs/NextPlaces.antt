@@ -1,8 +1,11 @@
 -- The next places of a column's clients, while steps are done.
 use Rattle.std.proofs.Common.{◌≡◌, ◌∙◌, ℕ, ◌+◌, Bool, true, false, refl, sym, subst, List, [], ◌∷◌, Option, Some, None, if◌then◌else◌}
 use Rattle.std.specs.Prelude.{◌==◌, slice_get}
+use Rattle.std.proofs.lemmas.Bool.{eqb-true}
 use Rattle.mk_lists.specs.Among.{Each, Each-weaker}
 use Rattle.mk_lists.specs.Changed.{change, Each-change}
+use Rattle.mk_lists.proofs.Lookups.{find-passes}
+use Rattle.mk_model.proofs.Parts.{heard_of-number, heard_of-same}
 use Rattle.mk_txn.specs.declared.TxnId.{TxnId}
 use Rattle.mk_txn.specs.declared.Stamp.{Stamp as StampType}
 use Rattle.mk_txn.specs.declared.WriteItem.{WriteItem}
@@ -28,7 +31,6 @@ use Rattle.mk_model.specs.ColumnState.Work.{Idle, Fetching, Validating, Finishin
 use Rattle.mk_model.specs.Answers.{heard_of, listens, is_led}
 use Rattle.mk_model.specs.Learnings.{txn_of}
 use Rattle.mk_model.specs.Steps.{on_some, begun, beginning, epoch_of, left_unread, stamping, stamped, with_last_time, ruled, sent_again, taken_over, picking, picked, replica_takes, taken, answered, validated, column_after}
-use Rattle.mk_driver_laws.proofs.Lookups.{eqb-tells, find-passes}
 
 -- each client's number and next place have P
 abbrev pub Nexts : (ℕ → ℕ → Type 0) → List ClientState → Type 0
@@ -75,22 +77,12 @@ module _ (P : ℕ → ℕ → Type 0) where
   picked_nexts c f view a (PickUnaccepted n) h = h
   picked_nexts c f view a (Unclear ok not_ok) h = h
 
-  heard_same : (body : Body) (cl : ClientState) → ((heard_of body cl).number ≡ cl.number) × ((heard_of body cl).next_seq ≡ cl.next_seq)
-  heard_same (ValidateBody mark) cl = (refl, refl)
-  heard_same Ask cl = (refl, refl)
-  heard_same (Accept outcome) cl = (refl, refl)
-  heard_same (Decide outcome) cl = (refl, refl)
-  heard_same (Voted vote) cl = (refl, refl)
-  heard_same AcceptedBody cl = (refl, refl)
-  heard_same (ToldBody told) cl = (refl, refl)
-  heard_same (MovedBody moved) cl = (refl, refl)
-
   taken_nexts : (round : Setting) (msg : Msg) (c : ColumnState) → Nexts P c.clients → Nexts P (taken round msg c).clients
   taken_nexts round msg c h =
       if_nexts (goes_to_replica msg.body) _ _ (on_some_nexts (replica_takes round msg) (txn_of c msg.id) c h (λ txn. h))
       (if_nexts (msg.view == 0) _ _
       (if_nexts (listens (attempt_of c msg.id)) _ c
-      (nexts_change (is_client msg.id.client) (heard_of msg.body) c.clients (λ cl. (heard_same msg.body cl).0) (λ cl. (heard_same msg.body cl).1) h) h)
+      (nexts_change (is_client msg.id.client) (heard_of msg.body) c.clients (λ cl. ((heard_of-number msg.body cl, (heard_of-same msg.body cl).1)).0) (λ cl. ((heard_of-number msg.body cl, (heard_of-same msg.body cl).1)).1) h) h)
       (if_nexts (is_led round msg.epoch msg.view) _ c h h))
 
   validated_nexts : (c : ColumnState) (txn : Transaction) (replica epoch : ℕ) (state : ValidationState) (act : Option KeyAct) → Nexts P c.clients → Nexts P (validated txn replica epoch state act c).clients
@@ -141,7 +133,7 @@ nexts_taken P Q n epoch here other (x ∷ xs) h = (head (is_client n x) refl, ne
     Then cl = Q cl.number cl.next_seq
 
     head : (b : Bool) → is_client n x ≡ b → Then (if b then begun epoch x else x)
-    head true e = here x.number x.next_seq (eqb-tells x.number n e) h.0
+    head true e = here x.number x.next_seq (eqb-true x.number n e) h.0
     head false e = other x.number x.next_seq h.0
 
 pub begin_nexts : (P Q : ℕ → ℕ → Type 0) (round : Setting) (c : ColumnState) (n replica : ℕ) → ((m s : ℕ) → m ≡ n → P m s → Q m (s + 1)) → ((m s : ℕ) → P m s → Q m s) →
@@ -151,7 +143,7 @@ begin_nexts P Q round c n replica here other h = by (client_of c n) refl
     by : (o : Option ClientState) → client_of c n ≡ o → Nexts Q (on_some (beginning round replica (epoch_of (slice_get round.views replica))) o c).clients
     by None e = Each-weaker (λ (cl : ClientState). P cl.number cl.next_seq) (λ (cl : ClientState). Q cl.number cl.next_seq) (λ cl k. other cl.number cl.next_seq k) c.clients h
     by (Some cl) e =
-        let number : cl.number ≡ n = eqb-tells cl.number n (find-passes (is_client n) c.clients cl e) in
+        let number : cl.number ≡ n = eqb-true cl.number n (find-passes (is_client n) c.clients cl e) in
         nexts_taken P Q cl.number (epoch_of (slice_get round.views replica)) (λ m s q k. here m s (q ∙ number) k) other c.clients h
 
 pub unread_nexts : (P Q : ℕ → ℕ → Type 0) (round : Setting) (c : ColumnState) (n : ℕ) → ((m s : ℕ) → m ≡ n → P m s → Q m (s + 1)) → ((m s : ℕ) → P m s → Q m s) →
@@ -161,5 +153,5 @@ unread_nexts P Q round c n here other h = by (client_of c n) refl
     by : (o : Option ClientState) → client_of c n ≡ o → Nexts Q (on_some (left_unread round) o c).clients
     by None e = Each-weaker (λ (cl : ClientState). P cl.number cl.next_seq) (λ (cl : ClientState). Q cl.number cl.next_seq) (λ cl k. other cl.number cl.next_seq k) c.clients h
     by (Some cl) e =
-        let number : cl.number ≡ n = eqb-tells cl.number n (find-passes (is_client n) c.clients cl e) in
+        let number : cl.number ≡ n = eqb-true cl.number n (find-passes (is_client n) c.clients cl e) in
         nexts_taken P Q cl.number 0 (λ m s q k. here m s (q ∙ number) k) other c.clients h

@@ -19,6 +19,7 @@ use Rattle.mk_words.specs.declared.Step.TheVariants.{Key}
 use Rattle.mk_model.specs.ColumnState.{Setting, ColumnState, ClientState, new_client}
 use Rattle.mk_model.specs.Steps.{column_after}
 use Rattle.mk_history.specs.Histories.{log_of, clients_of}
+use Rattle.mk_driver.specs.RisingNumbers.{callers_rise, asked_numbers}
 use Rattle.mk_driver.specs.declared.DriverState.{DriverState}
 use Rattle.mk_driver.specs.declared.Caller.{Caller}
 use Rattle.mk_driver.specs.declared.Submission.{Submission}
@@ -33,7 +34,7 @@ use Rattle.mk_driver_laws.proofs.Sure.{is_sure}
 use Rattle.mk_driver_laws.proofs.Remaining.{remaining, asked_remains}
 use Rattle.mk_driver_laws.proofs.Places.{HasRoom, RoomFor, Placed, room_more, placed_after}
 use Rattle.mk_driver_laws.proofs.PlaceChoices.{NamedPlaced, choice_placed}
-use Rattle.mk_driver_laws.proofs.Standing.{first_rising, asked_numbers, named_with_place}
+use Rattle.mk_driver_laws.proofs.Standing.{named_with_place}
 
 -- ---- how many attempts a script asks for
 
@@ -192,7 +193,7 @@ first_room numbers column n (line ∷ lines) = head (line.column == column) (fir
 first_placed : (script : ScriptParts) (c : ℕ) → StandingPlaced (limit_of script 0) (first_standing script c)
 first_placed script c =
     record {
-      rising = first_rising c 1 script.clients;
+      rising = callers_rise c 1 script.clients;
       room = subst (λ (limit : ℕ). Each (RoomFor limit (map new_client numbers)) (callers_from c 1 script.clients)) first (first_room numbers c 1 script.clients);
     }
   where

@@ -2,8 +2,11 @@
 use Rattle.std.proofs.Common.{◌≡◌, ◌∙◌, ◌<◌, ◌≤◌, ℕ, zero, suc, ◌+◌, Bool, true, false, refl, sym, subst, ap, arith, List, [], ◌∷◌, Some, cond, if◌then◌else◌}
 use Rattle.std.specs.Prelude.{find, slice_get, nat_le, ◌==◌}
 use Rattle.std.proofs.lemmas.Bool.Decides.{nat_tests}
+use Rattle.std.proofs.lemmas.Bool.{eqb-true}
 use Rattle.mk_lists.specs.Among.{Each, Each-weaker}
 use Rattle.mk_lists.specs.Changed.{change, Each-change}
+use Rattle.mk_lists.proofs.Lookups.{find-passes}
+use Rattle.mk_lists.proofs.EachMember.{Each-find}
 use Rattle.mk_words.specs.declared.Step.{Step}
 use Rattle.mk_model.specs.ColumnState.{Setting, ColumnState, ClientState, client_of, is_client}
 use Rattle.mk_model.specs.Conditions.{has_seq_left}
@@ -11,8 +14,8 @@ use Rattle.mk_model.specs.Steps.{column_after}
 use Rattle.mk_driver.specs.declared.Caller.{Caller}
 use Rattle.mk_driver.specs.Keeping.{IsRising, numbers_of}
 use Rattle.mk_driver.specs.Agenda.{is_caller}
-use Rattle.mk_driver_laws.proofs.Lookups.{eqb-tells, find-passes, member-slice_get, passes-at}
-use Rattle.mk_driver_laws.proofs.DriverFits.{numbers_same}
+use Rattle.mk_driver_laws.proofs.Lookups.{member-slice_get, passes-from_some}
+use Rattle.mk_driver_laws.proofs.DriverFits.{numbers_same, each_numbers}
 use Rattle.mk_driver_laws.proofs.Remaining.{remaining}
 use Rattle.mk_driver_laws.proofs.NextPlaces.{Nexts, takes_place, step_nexts}
 
@@ -78,7 +81,7 @@ all_taken limit n clients others f taking same (x ∷ xs) one h = (head (is_call
   where
     head : (b : Bool) → is_caller n x ≡ b → RoomFor limit others (if b then f x else x)
     head true e =
-        let less = one.0 (eqb-tells x.number n e) in
+        let less = one.0 (eqb-true x.number n e) in
         subst (λ (m : ℕ). Nexts (HasRoom limit m (remaining (f x))) others) (sym (same x))
         (room_taken limit n clients others taking x.number (remaining x) (remaining (f x)) (omega (arith, less)) one.0 h.0)
     head false e = room_taken limit n clients others taking x.number (remaining x) (remaining x) (omega arith) (λ q. absurd (apart q)) h.0
@@ -95,10 +98,6 @@ placed_taken limit n clients others f taking same callers one h =
     }
 
 -- ---- the client at a place of the list
-
-each_numbers : (P : ℕ → Type 0) (xs : List Caller) → Each P (numbers_of xs) → Each (λ (x : Caller). P x.number) xs
-each_numbers P [] h = tt
-each_numbers P (x ∷ xs) h = (h.0, each_numbers P xs h.1)
 
 -- no other client has its number
 pub only_there : (xs : List Caller) (place : ℕ) (x : Caller) → IsRising (numbers_of xs) → slice_get xs place ≡ Some x → Each (λ (y : Caller). y.number ≡ x.number → y ≡ x) xs
@@ -120,26 +119,18 @@ takes_one f xs place x r e less =
     Each-weaker (λ (y : Caller). y.number ≡ x.number → y ≡ x) (TakesOne x.number f)
     (λ y k q. subst (λ (z : Caller). remaining (f z) + 1 ≤ remaining z) (sym (k q)) less) xs (only_there xs place x r e)
 
-each_found : {X : Type 0} (P : X → Type 0) (p : X → Bool) (xs : List X) (x : X) → Each P xs → find p xs ≡ Some x → P x
-each_found P p [] x h e = absurd (cc e)
-each_found {X} P p (y ∷ ys) x h e = by (each_found P p ys x h.1) (p y) e
-  where
-    by : (find p ys ≡ Some x → P x) → (b : Bool) → cond b (Some y) (find p ys) ≡ Some x → P x
-    by again true z = let same : y ≡ x = cc z in subst P same h.0
-    by again false z = again z
-
 -- a client with an attempt to come has a place left
 pub seq_left : (limit : ℕ) (c : ColumnState) (callers : List Caller) (place : ℕ) (x : Caller) (cl : ClientState) → limit ≤ 16385 → Placed limit c.clients callers →
     slice_get callers place ≡ Some x → client_of c x.number ≡ Some cl → 1 ≤ remaining x → has_seq_left c x.number ≡ true
 seq_left limit c callers place x cl few h e q some =
-    passes-at (λ (k : ClientState). nat_le k.next_seq 16384) (client_of c x.number) cl q is
+    passes-from_some (λ (k : ClientState). nat_le k.next_seq 16384) (client_of c x.number) cl q is
   where
     room : RoomFor limit c.clients x
     room = member-slice_get (RoomFor limit c.clients) callers place x h.room e
 
     here : cl.next_seq + remaining x ≤ limit
-    here = each_found (λ (k : ClientState). HasRoom limit x.number (remaining x) k.number k.next_seq) (is_client x.number) c.clients cl room q
-        (eqb-tells cl.number x.number (find-passes (is_client x.number) c.clients cl q))
+    here = Each-find (λ (k : ClientState). HasRoom limit x.number (remaining x) k.number k.next_seq) (is_client x.number) c.clients cl room q
+        (eqb-true cl.number x.number (find-passes (is_client x.number) c.clients cl q))
 
     low : cl.next_seq ≤ 16384
     low = omega (arith, here, few, some)

@@ -2,7 +2,10 @@
 use Rattle.std.proofs.Common.{◌≡◌, ◌∙◌, ℕ, Bool, true, false, refl, sym, subst, ap, List, [], ◌∷◌, ◌++◌, Option, Some, None, ◌&&◌}
 use Rattle.std.specs.Prelude.{find, option_map, slice_get, ◌==◌}
 use Rattle.std.proofs.lemmas.List.{map-append, length-map}
+use Rattle.std.proofs.lemmas.Bool.{and_parts, eqb-true}
 use Rattle.mk_lists.specs.Changed.{change}
+use Rattle.mk_lists.proofs.Changes.{find-change}
+use Rattle.mk_lists.proofs.Lookups.{find-passes}
 use Rattle.mk_txn.specs.declared.TxnId.{TxnId}
 use Rattle.mk_txn.specs.declared.ReadItem.{ReadItem}
 use Rattle.mk_txn.specs.Transactions.{read_keys}
@@ -22,8 +25,7 @@ use Rattle.mk_model.specs.Steps.{answered, beginning, begun, column_after, epoch
 use Rattle.mk_driver.specs.declared.Caller.{Caller}
 use Rattle.mk_driver.specs.declared.Request.{Request}
 use Rattle.mk_driver.specs.Agenda.{is_caller, trial_by}
-use Rattle.mk_driver_laws.proofs.Lookups.{and_right, eqb-tells, find-change, find-passes}
-use Rattle.mk_driver_laws.proofs.Conditions.{AllHold, all_hold}
+use Rattle.mk_model.proofs.Frames.{AllTrue, AllTrue-from_first_failing}
 use Rattle.mk_driver_laws.proofs.ColumnMoves.{ColumnFits}
 use Rattle.mk_driver_laws.proofs.Frames.{begun_found}
 use Rattle.mk_driver_laws.proofs.ItemLaws.{IsFirst, first_more}
@@ -115,8 +117,8 @@ key_goes round c callers id call answer b h =
     attempt : AttemptState
     attempt = h.attempt
 
-    holds : AllHold (conditions round c (Key call answer))
-    holds = all_hold 1 (conditions round c (Key call answer)) b
+    holds : AllTrue (conditions round c (Key call answer))
+    holds = AllTrue-from_first_failing 1 (conditions round c (Key call answer)) b
 
     read : (other : TxnId) (replica key : ℕ) (given : Answer) → is_version given ≡ true → other ≡ id → IsFirst (read_keys attempt.reads ++ key ∷ []) (wanted_keys request.items) →
         FetchKeys (answered given (Fetching other replica key) c) callers id
@@ -139,7 +141,7 @@ key_goes round c callers id call answer b h =
     by : (work : Work) → passes (same_call call) (wanted work) ≡ true → KeysFit work id (wanted_keys request.items) (read_keys attempt.reads) → FetchKeys (answered answer work c) callers id
     by Idle w k = absurd (cc w)
     by (Fetching other replica key) w k =
-        read other replica key answer (got call.act answer (and_right (call.replica == replica && call.key == key) (same_act call.act Get) w) holds.1.0) k.0 k.1
+        read other replica key answer (got call.act answer (and_parts (call.replica == replica && call.key == key) (same_act call.act Get) w).1 holds.1.0) k.0 k.1
     by (Validating txn replica epoch state) w k = absurd k
     by (Finishing replica left) w k = absurd k
 
@@ -168,4 +170,4 @@ begin_goes round c k callers n replica cl request e idle asked =
     epoch = epoch_of (slice_get round.views replica)
 
     number : cl.number ≡ n
-    number = eqb-tells cl.number n (find-passes (is_client n) c.clients cl e)
+    number = eqb-true cl.number n (find-passes (is_client n) c.clients cl e)

@@ -1,8 +1,11 @@
 -- Which attempts read, while steps are done.
 use Rattle.std.proofs.Common.{◌≡◌, ◌∙◌, ℕ, ◌^◌, Bool, true, false, refl, sym, subst, List, [], ◌∷◌, Option, Some, None, if◌then◌else◌}
 use Rattle.std.specs.Prelude.{is_some, ◌==◌, slice_get, nat_le}
+use Rattle.std.proofs.lemmas.Bool.{and_parts, eqb-true}
 use Rattle.mk_lists.specs.Among.{Each, Each-append, Each-weaker}
 use Rattle.mk_lists.specs.Changed.{change, Each-change}
+use Rattle.mk_lists.proofs.Lookups.{find-passes}
+use Rattle.mk_model.proofs.Parts.{attempt_of-id}
 use Rattle.mk_txn.specs.declared.TxnId.{TxnId}
 use Rattle.mk_txn.specs.declared.Stamp.{Stamp as StampType}
 use Rattle.mk_txn.specs.declared.WriteItem.{WriteItem}
@@ -13,6 +16,7 @@ use Rattle.mk_words.specs.declared.Msg.{Msg}
 use Rattle.mk_words.specs.declared.Body.TheVariants.{Accept, Validate as ValidateBody}
 use Rattle.mk_words.specs.Links.{message, goes_to_replica}
 use Rattle.mk_quorum.specs.Slots.{passes}
+use Rattle.mk_quorum.proofs.Slots.{passes-at, passes-some}
 use Rattle.mk_words.specs.Checks.{KeyAct}
 use Rattle.mk_words.specs.Validations.{next_act, after_answer, ValidationState}
 use Rattle.mk_words.specs.declared.Ruling.{Ruling}
@@ -22,6 +26,7 @@ use Rattle.mk_words.specs.declared.Pick.{Pick}
 use Rattle.mk_words.specs.declared.Pick.TheVariants.{Known, Learned as PickLearned, Propose as PickPropose, Short as PickShort, Unaccepted as PickUnaccepted, Unclear}
 use Rattle.mk_words.specs.Picks.{pick}
 use Rattle.mk_txn.specs.Transactions.{Transaction}
+use Rattle.mk_txn.proofs.IdOrder.{same_id-itself}
 use Rattle.mk_words.specs.declared.Step.{Step}
 use Rattle.mk_words.specs.declared.Step.TheVariants.{Begin, Unread, Read, Stamp, Validate, Take, Key, Rule, Again, Takeover, Pick as PickStep, Stop}
 use Rattle.mk_model.specs.ColumnState.{Setting, ColumnState, AttemptState, ClientState, Work, attempt_of, client_of, takeover_of, is_attempt, send, to_all, mark_sent}
@@ -30,9 +35,7 @@ use Rattle.mk_model.specs.Conditions.{blocked, conditions, on_attempt, stamp_exi
 use Rattle.mk_model.specs.Answers.{attempt_answered, listens, is_led}
 use Rattle.mk_model.specs.Learnings.{txn_of}
 use Rattle.mk_model.specs.Steps.{on_some, beginning, epoch_of, left_unread, stamping, stamped, with_txn, ruled, taught, proposing, sent_again, taken_over, picking, picked, replica_takes, taken, answered, validated, with_read, column_after}
-use Rattle.mk_driver_laws.proofs.Lookups.{there, passes-some, find-passes, eqb-tells, and_right, same_id-itself}
-use Rattle.mk_driver_laws.proofs.Conditions.{AllHold, all_hold}
-use Rattle.mk_driver_laws.proofs.Taking.{own_id}
+use Rattle.mk_model.proofs.Frames.{AllTrue, AllTrue-from_first_failing}
 
 -- an attempt that reads has Q
 abbrev pub Reads : (TxnId → Type 0) → List AttemptState → Type 0
@@ -137,7 +140,7 @@ begun_reads round c n replica cl e h =
     ((λ r. λ i. record { client = number i; seq = cl.next_seq }), tt))
   where
     number : cl.number ≡ n
-    number = eqb-tells cl.number n (find-passes (Rattle.mk_model.specs.ColumnState.is_client n) c.clients cl e)
+    number = eqb-true cl.number n (find-passes (Rattle.mk_model.specs.ColumnState.is_client n) c.clients cl e)
 
 -- after its Stamp none reads
 pub stamped_none : (round : Setting) (c : ColumnState) (id : TxnId) (clock : ℕ) (writes : List WriteItem) → blocked round c (Stamp id clock writes) ≡ None → OneReads id c →
@@ -147,16 +150,15 @@ stamped_none round c id clock writes b h = by (attempt_of c id) refl
     After : Option AttemptState → Type 0
     After o = Reads (λ x. ⊥) (on_some (stamping clock writes) o c).attempts
 
-    holds : AllHold (conditions round c (Stamp id clock writes))
-    holds = all_hold 1 (conditions round c (Stamp id clock writes)) b
+    holds : AllTrue (conditions round c (Stamp id clock writes))
+    holds = AllTrue-from_first_failing 1 (conditions round c (Stamp id clock writes)) b
 
     by : (o : Option AttemptState) → attempt_of c id ≡ o → After (attempt_of c id)
     by None e = let p = passes-some (λ a. a.reading) (attempt_of c id) holds.1.0 in absurd (cc (sym e ∙ p.1))
     by (Some a) e = subst After (sym e) (by_client (client_of c a.id.client) exists)
       where
         exists : passes (λ cl. is_some (next_stamp_of cl.number cl.last_time clock a.reads)) (client_of c a.id.client) ≡ true
-        exists = there (λ x. stamp_exists c x clock) (attempt_of c id) a e
-            (and_right (nat_le clock (2 ^ 61)) (on_attempt c id (λ x. stamp_exists c x clock)) holds.1.1.1.0)
+        exists = passes-at (λ x. stamp_exists c x clock) (attempt_of c id) a e (and_parts (nat_le clock (2 ^ 61)) (on_attempt c id (λ x. stamp_exists c x clock)) holds.1.1.1.0).1
 
         none_left : (stamp : StampType) (xs : List AttemptState) → Reads (λ other. other ≡ id) xs → Reads (λ x. ⊥) (change (is_attempt a.id) (with_txn stamp writes) xs)
         none_left stamp [] k = tt
@@ -165,7 +167,7 @@ stamped_none round c id clock writes b h = by (attempt_of c id) refl
             head : (t : Bool) → is_attempt a.id x ≡ t → (if t then with_txn stamp writes x else x).reading ≡ true → ⊥
             head true t r = cc r
             head false t r =
-                let same : x.id ≡ a.id = k.0 r ∙ sym (own_id c id a e) in
+                let same : x.id ≡ a.id = k.0 r ∙ sym (attempt_of-id c id a e) in
                 let is : same_id x.id a.id ≡ true = subst (λ (i : TxnId). same_id i a.id ≡ true) (sym same) (same_id-itself a.id) in
                 cc (sym is ∙ t)
 

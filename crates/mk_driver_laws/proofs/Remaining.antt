@@ -1,6 +1,7 @@
 -- How many attempts a client can still begin: noticing an outcome raises it by nothing, and an attempt that begins takes one of it.
 use Rattle.std.proofs.Common.{◌≡◌, ◌≤◌, ℕ, zero, suc, ◌+◌, ◌-◌, ◌*◌, Bool, true, false, refl, ap, arith, List, [], ◌∷◌, ◌++◌, map, length, Option, Some, None, cond}
 use Rattle.std.specs.Prelude.{slice_get, slice_set, replicate, filter}
+use Rattle.std.proofs.lemmas.Option.{same_Some}
 use Rattle.mk_script.specs.declared.lines.TxnLine.{TxnLine}
 use Rattle.mk_driver.specs.declared.Request.{Request}
 use Rattle.mk_driver.specs.declared.Submission.{Submission}
@@ -9,7 +10,6 @@ use Rattle.mk_driver.specs.Agenda.{trial_in, end_trial, put_trial, with_place}
 use Rattle.mk_driver.specs.Delivery.{with_tries, retries_after, done_with, tried_again}
 use Rattle.mk_driver.specs.Stages.{next_request, after_request, without_request_by, without_request, begun}
 use Rattle.mk_driver.specs.Driven.{is_submission_of, submitted_by, asked_more}
-use Rattle.mk_driver_laws.proofs.Lookups.{some_same}
 
 -- each of these requests is tried once, and again as often as it has tries
 abbrev pub attempts_of : List Request → ℕ
@@ -85,7 +85,7 @@ done_remains seq x = let gone = tries_end seq x.trials in omega (arith, gone)
 -- the first line leaves the lines
 taken_line : (lines : List Request) (request : Request) → slice_get lines 0 ≡ Some request → attempts_of (after_request lines) + (1 + request.tries) ≡ attempts_of lines
 taken_line [] request e = absurd (cc e)
-taken_line (line ∷ lines) request e = let same : line.tries ≡ request.tries = ap (λ (r : Request). r.tries) (some_same line request e) in omega (arith, same)
+taken_line (line ∷ lines) request e = let same : line.tries ≡ request.tries = ap (λ (r : Request). r.tries) (same_Some line request e) in omega (arith, same)
 
 trials_kept : (requests : List Request) (x : Caller) → (without_request_by requests x).trials ≡ x.trials
 trials_kept [] x = refl
@@ -96,7 +96,7 @@ taken_by : (requests : List Request) (x : Caller) (request : Request) → x.retr
     attempts_of (without_request_by requests x).retries + attempts_of (without_request_by requests x).lines + (1 + request.tries) ≡ attempts_of x.retries + attempts_of x.lines
 taken_by [] x request r e = let line = taken_line x.lines request e in omega (arith, line)
 taken_by (first ∷ requests) x request r e =
-    let same : first.tries ≡ request.tries = ap (λ (q : Request). q.tries) (some_same first request e) in
+    let same : first.tries ≡ request.tries = ap (λ (q : Request). q.tries) (same_Some first request e) in
     let all : attempts_of x.retries ≡ 1 + first.tries + attempts_of requests = ap attempts_of r in
     omega (arith, same, all)
 

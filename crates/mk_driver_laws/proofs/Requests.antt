@@ -14,6 +14,7 @@ use Rattle.mk_script.specs.declared.lines.Round.{Round}
 use Rattle.mk_script.specs.Scripts.{ScriptParts, or_zero}
 use Rattle.mk_script.specs.Grammar.{Mention, key_of as name_of, keys_after, item_of, number_of}
 use Rattle.mk_script.specs.Grammar.Mention.{Reads, Writes, Computes, Deletes}
+use Rattle.mk_script.specs.GrownKeys.{length_grows}
 use Rattle.mk_script.specs.Whole.{IsWhole, IsTxnAt, TxnsAt, RoundsAt}
 use Rattle.mk_driver.specs.declared.Request.{Request}
 use Rattle.mk_driver.specs.declared.Submission.{Submission}
@@ -59,20 +60,12 @@ name_grows keys name = by (place name keys) refl
         let within = place_below name keys n e in
         subst (λ (o : Option ℕ). Grows (if is_some o then keys else keys ++ name ∷ [])) (sym e) (omega arith, omega (arith, within))
 
-names_grow : (keys : List (List ℕ)) (mentions : List Mention) → length keys ≤ length (keys_after keys mentions)
-names_grow keys [] = omega arith
-names_grow keys (m ∷ mentions) =
-    let one = name_grows keys (name_of m) in
-    let first = one.0 in
-    let rest = names_grow (with_name keys (name_of m)) mentions in
-    omega (arith, first, rest)
-
 names_some : (keys : List (List ℕ)) (mentions : List Mention) → 0 < length mentions → 0 < length (keys_after keys mentions)
 names_some keys [] h = absurd (omega (arith, h))
 names_some keys (m ∷ mentions) h =
     let one = name_grows keys (name_of m) in
     let first = one.1 in
-    let rest = names_grow (with_name keys (name_of m)) mentions in
+    let rest = length_grows (with_name keys (name_of m)) mentions in
     omega (arith, first, rest)
 
 number_below : (keys : List (List ℕ)) (name : List ℕ) → 0 < length keys → number_of keys name < length keys
@@ -112,7 +105,7 @@ module _ (version : ℕ) (clients : List ClientLine) (n : ℕ) where
   txns_grow keys (txn ∷ txns) after h =
       let line = h.1 in
       let same : length h.0 ≡ length (keys_after keys line.mentions) = ap length line.grown in
-      let first = names_grow keys line.mentions in
+      let first = length_grows keys line.mentions in
       let rest = txns_grow h.0 txns after h.2 in
       omega (arith, same, first, rest)
 
@@ -139,7 +132,8 @@ module _ (version : ℕ) (clients : List ClientLine) (n : ℕ) where
 
 -- ---- rounds
 
-each_at : {X : Type 0} (P : X → Type 0) (xs : List X) (place : ℕ) (d : X) → Each P xs → P d → P (slice_index_or xs place d)
+-- what holds of each and of d holds at every place
+pub each_at : {X : Type 0} (P : X → Type 0) (xs : List X) (place : ℕ) (d : X) → Each P xs → P d → P (slice_index_or xs place d)
 each_at P [] place d h k = k
 each_at P (x ∷ xs) zero d h k = h.0
 each_at P (x ∷ xs) (suc place) d h k = each_at P xs place d h.1 k

@@ -26,6 +26,7 @@ use Rattle.mk_model.specs.Conditions.{blocked, is_stamped, is_validate_of}
 use Rattle.mk_model.specs.Steps.{column_after}
 use Rattle.mk_model.specs.Logs.{not_reading, reading_ended, replica_reset}
 use Rattle.mk_history.specs.Histories.{log_of, clients_of}
+use Rattle.mk_driver.specs.RisingNumbers.{callers_rise, asked_numbers}
 use Rattle.mk_driver.specs.declared.DriverState.{DriverState}
 use Rattle.mk_driver.specs.declared.Caller.{Caller}
 use Rattle.mk_driver.specs.declared.Stage.{Stage}
@@ -261,10 +262,6 @@ asked_callers : (c : ColumnState) (submissions : List Submission) (xs : List Cal
 asked_callers c submissions [] h = tt
 asked_callers c submissions (x ∷ xs) h = (h.0, asked_callers c submissions xs h.1)
 
-pub asked_numbers : (submissions : List Submission) (xs : List Caller) → numbers_of (map (asked_more submissions) xs) ≡ numbers_of xs
-asked_numbers submissions [] = refl
-asked_numbers submissions (x ∷ xs) = ap (λ ns. x.number ∷ ns) (asked_numbers submissions xs)
-
 begun_fits : (script : ScriptParts) → IsWhole script → (number : ℕ) (standing : Standing) → StandingFits script.size (length script.keys) [] standing → Fits script (standing_begun script number standing)
 begun_fits script whole number standing h =
     let d = h.driver.1 in
@@ -283,27 +280,6 @@ begun_fits script whole number standing h =
     }
 
 -- ---- the first round
-
-from_number : (column n m : ℕ) (lines : List ClientLine) → m ≤ n → Each (λ x. m ≤ x) (numbers_of (callers_from column n lines))
-from_number column n m [] e = tt
-from_number column n m (line ∷ lines) e = head (line.column == column) (from_number column (n + 1) m lines (omega (arith, e)))
-  where
-    head : (b : Bool) → Each (λ x. m ≤ x) (numbers_of (callers_from column (n + 1) lines)) →
-        Each (λ x. m ≤ x) (numbers_of (if b then record { number = n; home = line.home; under_way = None; retries = []; lines = []; trials = [] } ∷ callers_from column (n + 1) lines
-        else callers_from column (n + 1) lines))
-    head true rest = (e, rest)
-    head false rest = rest
-
-pub first_rising : (column n : ℕ) (lines : List ClientLine) → IsRising (numbers_of (callers_from column n lines))
-first_rising column n [] = tt
-first_rising column n (line ∷ lines) = head (line.column == column) (first_rising column (n + 1) lines)
-  where
-    head : (b : Bool) → IsRising (numbers_of (callers_from column (n + 1) lines)) →
-        IsRising (numbers_of (if b then record { number = n; home = line.home; under_way = None; retries = []; lines = []; trials = [] } ∷ callers_from column (n + 1) lines
-        else callers_from column (n + 1) lines))
-    head true rest =
-        (Each-weaker (λ x. n + 1 ≤ x) (λ x. n < x) (λ x h. omega (arith, h)) (numbers_of (callers_from column (n + 1) lines)) (from_number column (n + 1) (n + 1) lines (omega arith)), rest)
-    head false rest = rest
 
 first_callers : (c : ColumnState) (column n : ℕ) (lines : List ClientLine) → Each (CallerFits c) (callers_from column n lines)
 first_callers c column n [] = tt
@@ -333,7 +309,7 @@ first_fits script c =
           late = tt;
           held = tt;
           callers = first_callers (new_column script.size (clients_of c 1 (client_columns_of script))) c 1 script.clients;
-          rising = first_rising c 1 script.clients;
+          rising = callers_rise c 1 script.clients;
         },
       );
       asks = new_asks (length script.keys) c 1 script.clients;

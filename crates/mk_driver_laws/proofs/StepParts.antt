@@ -5,23 +5,26 @@ use Rattle.std.specs.List.{list_any}
 use Rattle.std.proofs.lemmas.Bool.Decides.{nat_tests}
 use Rattle.mk_lists.specs.Among.{Each}
 use Rattle.mk_lists.specs.Changed.{change}
+use Rattle.mk_lists.proofs.Changes.{find-change, find-change_other}
 use Rattle.mk_txn.specs.declared.TxnId.{TxnId}
 use Rattle.mk_txn.specs.declared.ReadItem.{ReadItem}
 use Rattle.mk_txn.specs.declared.WriteItem.{WriteItem}
 use Rattle.mk_txn.specs.declared.Vote.{Vote}
 use Rattle.mk_txn.specs.Transactions.{Transaction, same_id}
 use Rattle.mk_txn.specs.Outcomes.{is_ok_vote}
+use Rattle.mk_txn.proofs.IdOrder.{same_id-apart, same_id-tells}
 use Rattle.mk_words.specs.declared.Msg.{Msg}
 use Rattle.mk_words.specs.declared.Body.{Body}
 use Rattle.mk_quorum.specs.Counts.{count_below}
 use Rattle.mk_quorum.specs.Sizes.{members, majority_of, fast_of}
 use Rattle.mk_quorum.specs.Slots.{passes, slot, count_slots, empty_slots}
+use Rattle.mk_quorum.proofs.Slots.{slot-empty}
 use Rattle.mk_words.specs.Validations.{next_act, validation_of}
 use Rattle.mk_words.specs.Rulings.{new_coord, ruling, is_abort_vote, any_vote}
 use Rattle.mk_words.specs.declared.Step.{Step}
 use Rattle.mk_model.specs.ColumnState.{ColumnState, AttemptState, TakeoverOf, attempt_of, takeover_of, is_attempt, is_client, is_takeover, to_all, numbers_from}
 use Rattle.mk_model.specs.Conditions.{is_validate_of, is_stamped, on_attempt, acts_on}
-use Rattle.mk_driver_laws.proofs.Lookups.{same_id-tells, find-change, find-change_other, apart_ids, each_map, none_changed}
+use Rattle.mk_driver_laws.proofs.Lookups.{each_map, none_changed}
 use Rattle.mk_driver_laws.proofs.ColumnMoves.{WasSent, stops, validates, ColumnFits, WorkFits, AttemptKept, AttemptMove, MessageFits, Moves}
 use Rattle.mk_driver_laws.proofs.ColumnMoves.AttemptMove.{Stays, Changes}
 
@@ -50,7 +53,7 @@ changed_moves f link step other g xs same kept id = by (same_id other id) refl
     by true e =
         subst (λ (i : TxnId). AttemptMove f link (stops step i) i (find (is_attempt i) xs) (find (is_attempt i) (change (is_attempt other) g xs)))
         (same_id-tells other id e) (here (find (is_attempt other) xs) refl)
-    by false e = Stays (find-change_other (is_attempt other) (is_attempt id) g xs (λ x t. apart_ids x.id other id e t) (keeps id))
+    by false e = Stays (find-change_other (is_attempt other) (is_attempt id) g xs (λ x t. same_id-apart x.id other id e t) (keeps id))
 
 -- ---- messages
 
@@ -78,17 +81,12 @@ some_to_all p f epoch id view body e =
 
 -- ---- coordinators
 
-slot_empty : {X : Type 0} (n r : ℕ) → slot {X = X} (empty_slots n) r ≡ None
-slot_empty zero r = refl
-slot_empty (suc n) zero = refl
-slot_empty (suc n) (suc r) = slot_empty n r
-
 none_count : (n : ℕ) (p : ℕ → Bool) → ((r : ℕ) → p r ≡ false) → count_below n p ≡ 0
 none_count zero p h = refl
 none_count (suc n) p h = let first = h n in grind (arith, first, none_count n p h)
 
 no_votes : (f : ℕ) (p : Vote → Bool) → count_slots (members f) p (empty_slots (members f)) ≡ 0
-no_votes f p = none_count (members f) (λ r. passes p (slot (empty_slots (members f)) r)) (λ r. ap (passes p) (slot_empty (members f) r))
+no_votes f p = none_count (members f) (λ r. passes p (slot (empty_slots (members f)) r)) (λ r. ap (passes p) (slot-empty (members f) r))
 
 -- a coordinator that has taken nothing has nothing to do
 pub new_rules_nothing : (f : ℕ) → acts_on (ruling f (new_coord f)) ≡ false

@@ -1,13 +1,20 @@
 -- What the remaining steps do to a column, and each enabled step.
 use Rattle.std.proofs.Common.{◌≡◌, ◌∙◌, ◌≤◌, ℕ, ◌+◌, Bool, true, false, refl, sym, subst, ap, arith, inl, inr, List, [], ◌∷◌, ◌++◌, map, length, Option, Some, None, ◌&&◌, nat_lt, if◌then◌else◌}
 use Rattle.std.specs.Prelude.{is_some, is_none, find, option_and_then, slice_get, ◌-◌, nat_le, ◌==◌}
+use Rattle.std.proofs.lemmas.Option.{same_Some}
+use Rattle.std.proofs.lemmas.Bool.{and_parts, eqb-true}
+use Rattle.std.proofs.lemmas.List.{append-nil}
 use Rattle.mk_lists.specs.Among.{Each, Each-weaker}
 use Rattle.mk_lists.specs.Changed.{change}
+use Rattle.mk_lists.proofs.Lookups.{find-passes}
+use Rattle.mk_model.proofs.Parts.{attempt_of-id, attempt_of-own, heard_of-number, heard_of-same, state_answered-view}
+use Rattle.mk_quorum.proofs.Slots.{passes-at, passes-some}
 use Rattle.mk_txn.specs.declared.TxnId.{TxnId}
 use Rattle.mk_txn.specs.declared.Stamp.{Stamp as StampType}
 use Rattle.mk_txn.specs.declared.WriteItem.{WriteItem}
 use Rattle.mk_txn.specs.Stamps.{next_stamp_of}
 use Rattle.mk_txn.specs.Transactions.{Transaction, same_id}
+use Rattle.mk_txn.proofs.IdOrder.{same_id-itself}
 use Rattle.mk_words.specs.declared.Answer.{Answer}
 use Rattle.mk_words.specs.declared.Msg.{Msg}
 use Rattle.mk_words.specs.declared.Body.{Body}
@@ -27,17 +34,13 @@ use Rattle.mk_model.specs.Replicas.{Reaction, reaction_by_view, held_at}
 use Rattle.mk_model.specs.Answers.{state_answered, own_answered, takeover_heard, takeover_answered, attempt_answered, heard_of, listens, is_led}
 use Rattle.mk_model.specs.Learnings.{txn_of, learned_in_step}
 use Rattle.mk_model.specs.Steps.{on_some, beginning, left_unread, next_id, new_attempt, unread_attempt, epoch_of, stamping, stamped, with_txn, with_last_time, ruled, sent_again, taken_over, picking, replica_takes, taken, answered, fetched, with_read, validated, voted_msg, column_after, stepped}
-use Rattle.mk_driver_laws.proofs.Lookups.{same_id-tells, same_id-itself, some_same, there, passes-some, find-passes, any-right, changed_from, none_changed, eqb-tells, member-slice_get, and_left}
-use Rattle.mk_driver_laws.proofs.Conditions.{all_hold}
+use Rattle.mk_driver_laws.proofs.Lookups.{any-right, changed_from, none_changed, member-slice_get}
+use Rattle.mk_model.proofs.Frames.{AllTrue-from_first_failing}
 use Rattle.mk_driver_laws.proofs.ColumnMoves.{WasSent, stops, validates, ColumnFits, WorkFits, AttemptKept, MessageFits, Moves}
 use Rattle.mk_driver_laws.proofs.ColumnMoves.AttemptMove.{Stays}
 use Rattle.mk_driver_laws.proofs.StepParts.{changed_moves, plain_fits, some_to_all, has_checks, moves_by, moves_plain, moves_changed}
 use Rattle.mk_driver_laws.proofs.Replies.{ReplyFits, ReactionFits, by_view_fits, finishing_fits}
-use Rattle.mk_driver_laws.proofs.ColumnSteps.{with_learned, append_nothing, same_attempt, sent_attempt, nothing_moves, begin_moves, send_moves, acts_sent, proposed_sent, rule_moves, again_moves, takeover_moves, pick_moves, takeover_changed}
-
--- the attempt that is found has this number
-pub own_id : (c : ColumnState) (id : TxnId) (a : AttemptState) → attempt_of c id ≡ Some a → a.id ≡ id
-own_id c id a e = same_id-tells a.id id (find-passes (is_attempt id) c.attempts a e)
+use Rattle.mk_driver_laws.proofs.ColumnSteps.{with_learned, same_attempt, sent_attempt, nothing_moves, begin_moves, send_moves, acts_sent, proposed_sent, rule_moves, again_moves, takeover_moves, pick_moves, takeover_changed}
 
 -- clients that change keep or raise their next place
 counted : (cs : List ClientState) (p : ClientState → Bool) (g : ClientState → ClientState) → ((x : ClientState) → (g x).number ≡ x.number) → ((x : ClientState) → (g x).next_seq ≡ x.next_seq) →
@@ -62,7 +65,7 @@ module _ (f : ℕ) (c : ColumnState) (k : ColumnFits f c) (l : List Learning) wh
       record {
         attempts = λ id. changed_moves f c.link step other g c.attempts same kept id;
         messages = [];
-        link = append_nothing c.link;
+        link = (sym (append-nil c.link));
         fit = tt;
         validated = λ id w. absurd (cc (sym (v id) ∙ w));
         takeovers = k.takeovers;
@@ -79,14 +82,14 @@ module _ (f : ℕ) (c : ColumnState) (k : ColumnFits f c) (l : List Learning) wh
     where
       kept : (x : AttemptState) → attempt_of c a.id ≡ Some x → AttemptKept c.link false a.id x (with_txn stamp writes x)
       kept x g =
-          let same : a ≡ x = some_same a x (sym e ∙ g) in
+          let same : a ≡ x = same_Some a x (sym e ∙ g) in
           let some : nat_lt 0 (length x.reads + length writes) ≡ true = subst (λ (y : AttemptState). nat_lt 0 (length y.reads + length writes) ≡ true) same n in
           let made : Transaction = record { id = x.id; stamp = stamp; reads = x.reads; writes = writes } in
           record {
             txn = λ t. refl;
             coord = inl refl;
-            acts = λ h txn t. subst (λ (y : Transaction). (y.id ≡ a.id) × (is_some (next_act (validation_of y)) ≡ true)) (some_same made txn t)
-                (own_id c a.id x g, has_checks made some);
+            acts = λ h txn t. subst (λ (y : Transaction). (y.id ≡ a.id) × (is_some (next_act (validation_of y)) ≡ true)) (same_Some made txn t)
+                (attempt_of-id c a.id x g, has_checks made some);
             stopped = λ t. refl;
           }
 
@@ -149,45 +152,25 @@ module _ (f : ℕ) (c : ColumnState) (k : ColumnFits f c) (l : List Learning) wh
           replica_moves number msg (reaction_by_view txn (held_at c msg.replica) msg (slice_get round.views msg.replica)) w
           (by_view_fits c.link msg txn (subst (λ (i : TxnId). WasSent c.link i) (sym acts.0) w) acts.1 (held_at c msg.replica) (slice_get round.views msg.replica)) _ _
 
-  heard_number : (body : Body) (x : ClientState) → ((heard_of body x).number ≡ x.number) × ((heard_of body x).next_seq ≡ x.next_seq)
-  heard_number (ValidateBody mark) x = (refl, refl)
-  heard_number Ask x = (refl, refl)
-  heard_number (Accept outcome) x = (refl, refl)
-  heard_number (Decide outcome) x = (refl, refl)
-  heard_number (Voted vote) x = (refl, refl)
-  heard_number AcceptedBody x = (refl, refl)
-  heard_number (ToldBody told) x = (refl, refl)
-  heard_number (MovedBody moved) x = (refl, refl)
-
   own_moves : (number : ℕ) (msg : Msg) → WasSent c.link msg.id → Moves f c (with_learned l (own_answered msg c)) (Take number)
   own_moves number msg w =
       if_moves (Take number) (listens (attempt_of c msg.id)) _ c
       (both_change (Take number) (λ i. refl) msg.id (attempt_answered msg.replica msg.body) msg.id.client (heard_of msg.body) (λ x. refl)
       (λ x g. sent_attempt c.link false msg.id x (attempt_answered msg.replica msg.body x) refl w refl)
-      (λ x. (heard_number msg.body x).0) (λ x. (heard_number msg.body x).1))
+      (λ x. ((heard_of-number msg.body x, (heard_of-same msg.body x).1)).0) (λ x. ((heard_of-number msg.body x, (heard_of-same msg.body x).1)).1))
       (nothing_moves f c k l (Take number) (λ i z. absurd (cc z)))
-
-  same_view : (r : ℕ) (body : Body) (t : TakeoverState) → (state_answered r body t).view ≡ t.view
-  same_view r (ValidateBody mark) t = refl
-  same_view r Ask t = refl
-  same_view r (Accept outcome) t = refl
-  same_view r (Decide outcome) t = refl
-  same_view r (Voted vote) t = refl
-  same_view r AcceptedBody t = refl
-  same_view r (ToldBody told) t = refl
-  same_view r (MovedBody moved) t = refl
 
   same_takeover : (r : ℕ) (body : Body) (t : TakeoverOf) (b : Bool) →
       ((if b then t else record t { state = state_answered r body t.state }).id ≡ t.id) × ((if b then t else record t { state = state_answered r body t.state }).state.view ≡ t.state.view)
   same_takeover r body t true = (refl, refl)
-  same_takeover r body t false = (refl, same_view r body t.state)
+  same_takeover r body t false = (refl, state_answered-view r body t.state)
 
   heard_moves : (round : Setting) (number : ℕ) (msg : Msg) → Moves f c (with_learned l (takeover_heard round msg c)) (Take number)
   heard_moves round number msg =
       if_moves (Take number) (is_led round msg.epoch msg.view) _ c
       (moves_by f c _ (Take number) k (λ i. Stays refl) (λ i o. o) refl
       (takeover_changed f c k l (takeover_answered msg.replica msg.body) msg.id msg.view (λ t. (same_takeover msg.replica msg.body t t.closed).0) (λ t. (same_takeover msg.replica msg.body t t.closed).1))
-      [] (append_nothing c.link) tt (λ i z. absurd (cc z)) k.work)
+      [] ((sym (append-nil c.link))) tt (λ i z. absurd (cc z)) k.work)
       (nothing_moves f c k l (Take number) (λ i z. absurd (cc z)))
 
   taken_moves : (round : Setting) (number : ℕ) (msg : Msg) → WasSent c.link msg.id → Moves f c (with_learned l (taken round msg c)) (Take number)
@@ -211,7 +194,7 @@ module _ (f : ℕ) (c : ColumnState) (k : ColumnFits f c) (l : List Learning) wh
   validated_moves : (call : KeyCall) (answer : Answer) (txn : Transaction) (replica epoch : ℕ) (state : ValidationState) → WasSent c.link txn.id →
       (act : Option KeyAct) → next_act state ≡ act → Moves f c (with_learned l (validated txn replica epoch state act c)) (Key call answer)
   validated_moves call answer txn replica epoch state w (Some act) e =
-      moves_plain f c _ (Key call answer) k refl refl refl [] (append_nothing c.link) tt (λ i z. absurd (cc z)) (w, ap is_some e)
+      moves_plain f c _ (Key call answer) k refl refl refl [] ((sym (append-nil c.link))) tt (λ i z. absurd (cc z)) (w, ap is_some e)
   validated_moves call answer txn replica epoch state w None e =
       moves_plain f c _ (Key call answer) k refl refl refl (voted_msg txn replica epoch (vote_of state) ∷ []) refl
       (plain_fits c (Key call answer) (voted_msg txn replica epoch (vote_of state)) (k.stamped txn.id w) w (λ i. refl), tt) (λ i z. absurd (cc z)) tt
@@ -220,20 +203,20 @@ module _ (f : ℕ) (c : ColumnState) (k : ColumnFits f c) (l : List Learning) wh
   key_moves call answer Idle h = nothing_moves f c k l (Key call answer) (λ i z. absurd (cc z))
   key_moves call answer (Fetching id replica key) h =
       moves_changed f c _ (Key call answer) k id (with_read key answer) refl (λ x. refl)
-      (λ x g. same_attempt c.link false id x (with_read key answer x) refl refl refl) refl refl [] (append_nothing c.link) tt (λ i z. absurd (cc z)) tt
+      (λ x g. same_attempt c.link false id x (with_read key answer x) refl refl refl) refl refl [] ((sym (append-nil c.link))) tt (λ i z. absurd (cc z)) tt
   key_moves call answer (Validating txn replica epoch state) h =
       let next = after_answer state answer in validated_moves call answer txn replica epoch next h.0 (next_act next) refl
   key_moves call answer (Finishing replica []) h = absurd h
   key_moves call answer (Finishing replica (act ∷ acts)) h =
-      moves_plain f c _ (Key call answer) k refl refl refl [] (append_nothing c.link) tt (λ i z. absurd (cc z)) (finishing_fits c.link replica acts)
+      moves_plain f c _ (Key call answer) k refl refl refl [] ((sym (append-nil c.link))) tt (λ i z. absurd (cc z)) (finishing_fits c.link replica acts)
 
   stop_moves : (id : TxnId) → Moves f c (with_learned l (change_attempt id (λ a. record a { stopped = true }) c)) (Stop id)
   stop_moves id =
       moves_changed f c _ (Stop id) k id (λ a. record a { stopped = true }) refl (λ x. refl)
-      (λ x g. record { txn = λ e. e; coord = inl refl; acts = λ h. h; stopped = λ e. absurd (cc (sym (same_id-itself id) ∙ e)) }) refl refl [] (append_nothing c.link) tt (λ i z. absurd (cc z)) k.work
+      (λ x g. record { txn = λ e. e; coord = inl refl; acts = λ h. h; stopped = λ e. absurd (cc (sym (same_id-itself id) ∙ e)) }) refl refl [] ((sym (append-nil c.link))) tt (λ i z. absurd (cc z)) k.work
 
   read_moves : (id : TxnId) (key : ℕ) (o : Option AttemptState) → Moves f c (with_learned l (on_some (λ a col. record col { work = Fetching id a.replica key }) o c)) (Read id key)
-  read_moves id key (Some a) = moves_plain f c _ (Read id key) k refl refl refl [] (append_nothing c.link) tt (λ i z. absurd (cc z)) tt
+  read_moves id key (Some a) = moves_plain f c _ (Read id key) k refl refl refl [] ((sym (append-nil c.link))) tt (λ i z. absurd (cc z)) tt
   read_moves id key None = nothing_moves f c k l (Read id key) (λ i z. absurd (cc z))
 
   picking_moves : (round : Setting) (id : TxnId) (view : ℕ) (a : AttemptState) → round.faults ≡ f → attempt_of c a.id ≡ Some a → (o : Option TakeoverOf) → takeover_of c a.id view ≡ o →
@@ -242,15 +225,11 @@ module _ (f : ℕ) (c : ColumnState) (k : ColumnFits f c) (l : List Learning) wh
   picking_moves round id view a s e (Some takeover) t =
       let w = k.takeovers a.id view takeover t in pick_moves f c k l id view a (pick f takeover.state) (k.stamped a.id w) w
 
--- an attempt that was found, at its own number
-pub at_own : (c : ColumnState) (id : TxnId) (a : AttemptState) → attempt_of c id ≡ Some a → attempt_of c a.id ≡ Some a
-at_own c id a e = ap (attempt_of c) (own_id c id a e) ∙ e
-
 stamped_own : (c : ColumnState) (id : TxnId) (a : AttemptState) → attempt_of c id ≡ Some a → on_attempt c id is_stamped ≡ true → on_attempt c a.id is_stamped ≡ true
-stamped_own c id a e s = ap (λ (i : TxnId). on_attempt c i is_stamped) (own_id c id a e) ∙ s
+stamped_own c id a e s = ap (λ (i : TxnId). on_attempt c i is_stamped) (attempt_of-id c id a e) ∙ s
 
 sent_own : (c : ColumnState) (id : TxnId) (a : AttemptState) → attempt_of c id ≡ Some a → WasSent c.link id → WasSent c.link a.id
-sent_own c id a e w = subst (λ (i : TxnId). WasSent c.link i) (sym (own_id c id a e)) w
+sent_own c id a e w = subst (λ (i : TxnId). WasSent c.link i) (sym (attempt_of-id c id a e)) w
 
 -- what an enabled step does
 pub step_moves : (round : Setting) (c : ColumnState) (step : Step) → ColumnFits round.faults c → blocked round c step ≡ None →
@@ -261,14 +240,14 @@ step_moves round c (Begin client replica) k b = by (c.learned ++ learned_in_step
         Moves round.faults c (with_learned l (on_some (beginning round replica (epoch_of (slice_get round.views replica))) o c)) (Begin client replica)
     by l None e = nothing_moves round.faults c k l (Begin client replica) (λ i z. absurd (cc z))
     by l (Some cl) e =
-        let same : cl.number ≡ client = eqb-tells cl.number client (find-passes (is_client client) c.clients cl e) in
+        let same : cl.number ≡ client = eqb-true cl.number client (find-passes (is_client client) c.clients cl e) in
         begin_moves round.faults c k l (Begin client replica) (λ i. refl) cl _ _ (ap (client_of c) same ∙ e) refl refl refl
 step_moves round c (Unread client) k b = by (c.learned ++ learned_in_step round c (Unread client)) (client_of c client) refl
   where
     by : (l : List Learning) (o : Option ClientState) → client_of c client ≡ o → Moves round.faults c (with_learned l (on_some (left_unread round) o c)) (Unread client)
     by l None e = nothing_moves round.faults c k l (Unread client) (λ i z. absurd (cc z))
     by l (Some cl) e =
-        let same : cl.number ≡ client = eqb-tells cl.number client (find-passes (is_client client) c.clients cl e) in
+        let same : cl.number ≡ client = eqb-true cl.number client (find-passes (is_client client) c.clients cl e) in
         begin_moves round.faults c k l (Unread client) (λ i. refl) cl _ _ (ap (client_of c) same ∙ e) refl refl refl
 step_moves round c (Read id key) k b = read_moves round.faults c k _ id key (attempt_of c id)
 step_moves round c (Stamp id clock writes) k b = by (c.learned ++ learned_in_step round c (Stamp id clock writes)) (attempt_of c id) refl
@@ -276,18 +255,18 @@ step_moves round c (Stamp id clock writes) k b = by (c.learned ++ learned_in_ste
     by : (l : List Learning) (o : Option AttemptState) → attempt_of c id ≡ o → Moves round.faults c (with_learned l (on_some (stamping clock writes) o c)) (Stamp id clock writes)
     by l None e = nothing_moves round.faults c k l (Stamp id clock writes) (λ i z. absurd (cc z))
     by l (Some a) e =
-        let h = all_hold 1 (conditions round c (Stamp id clock writes)) b in
-        stamping_moves round.faults c k l id clock writes a (client_of c a.id.client) (at_own c id a e)
-        (there (λ x. nat_lt 0 (length x.reads + length writes)) (attempt_of c id) a e h.1.1.1.1.0)
+        let h = AllTrue-from_first_failing 1 (conditions round c (Stamp id clock writes)) b in
+        stamping_moves round.faults c k l id clock writes a (client_of c a.id.client) (attempt_of-own c id a e)
+        (passes-at (λ x. nat_lt 0 (length x.reads + length writes)) (attempt_of c id) a e h.1.1.1.1.0)
 step_moves round c (Validate id) k b = by (c.learned ++ learned_in_step round c (Validate id)) (attempt_of c id) refl
   where
     by : (l : List Learning) (o : Option AttemptState) → attempt_of c id ≡ o →
         Moves round.faults c (with_learned l (on_some (λ a col. send (to_all round.faults a.epoch id 0 (ValidateBody (mark_sent round col id.client))) col) o c)) (Validate id)
     by l None e =
-        let h = all_hold 1 (conditions round c (Validate id)) b in
+        let h = AllTrue-from_first_failing 1 (conditions round c (Validate id)) b in
         let p = passes-some is_stamped (attempt_of c id) h.1.0 in absurd (cc (sym e ∙ p.1))
     by l (Some a) e =
-        let h = all_hold 1 (conditions round c (Validate id)) b in validate_moves round.faults c k l id a.epoch (mark_sent round c id.client) h.1.0
+        let h = AllTrue-from_first_failing 1 (conditions round c (Validate id)) b in validate_moves round.faults c k l id a.epoch (mark_sent round c id.client) h.1.0
 step_moves round c (Take number) k b = take_moves round.faults c k _ round number (message c.link number) refl
 step_moves round c (Key call answer) k b = key_moves round.faults c k _ call answer c.work k.work
 step_moves round c (Rule id) k b = by (c.learned ++ learned_in_step round c (Rule id)) (attempt_of c id) refl
@@ -296,28 +275,28 @@ step_moves round c (Rule id) k b = by (c.learned ++ learned_in_step round c (Rul
         Moves round.faults c (with_learned l (on_some (λ a col. ruled round.faults a (ruling round.faults a.coord) col) o c)) (Rule id)
     by l None e = nothing_moves round.faults c k l (Rule id) (λ i z. absurd (cc z))
     by l (Some a) e =
-        let h = all_hold 1 (conditions round c (Rule id)) b in
-        rule_moves round.faults c k l id a (ruling round.faults a.coord) (at_own c id a e) (stamped_own c id a e h.1.0)
-        (sent_own c id a e (acts_sent round.faults c k [] id a e (there (λ x. acts_on (ruling round.faults x.coord)) (attempt_of c id) a e h.1.1.1.1.0)))
+        let h = AllTrue-from_first_failing 1 (conditions round c (Rule id)) b in
+        rule_moves round.faults c k l id a (ruling round.faults a.coord) (attempt_of-own c id a e) (stamped_own c id a e h.1.0)
+        (sent_own c id a e (acts_sent round.faults c k [] id a e (passes-at (λ x. acts_on (ruling round.faults x.coord)) (attempt_of c id) a e h.1.1.1.1.0)))
 step_moves round c (Again id) k b = by (c.learned ++ learned_in_step round c (Again id)) (attempt_of c id) refl
   where
     by : (l : List Learning) (o : Option AttemptState) → attempt_of c id ≡ o → Moves round.faults c (with_learned l (on_some (sent_again round.faults) o c)) (Again id)
     by l None e = nothing_moves round.faults c k l (Again id) (λ i z. absurd (cc z))
     by l (Some a) e =
-        let h = all_hold 1 (conditions round c (Again id)) b in
+        let h = AllTrue-from_first_failing 1 (conditions round c (Again id)) b in
         again_moves round.faults c k l id a a.coord.proposed (stamped_own c id a e h.1.0)
         (sent_own c id a e (proposed_sent round.faults c k [] id a e
-        (and_left (is_some a.coord.proposed) (is_none a.coord.learned) (there (λ x. is_some x.coord.proposed && is_none x.coord.learned) (attempt_of c id) a e h.1.1.1.0))))
+        (and_parts (is_some a.coord.proposed) (is_none a.coord.learned) (passes-at (λ x. is_some x.coord.proposed && is_none x.coord.learned) (attempt_of c id) a e h.1.1.1.0)).0))
 step_moves round c (Takeover id view) k b = by (c.learned ++ learned_in_step round c (Takeover id view)) (attempt_of c id) refl
   where
     by : (l : List Learning) (o : Option AttemptState) → attempt_of c id ≡ o → Moves round.faults c (with_learned l (on_some (taken_over round.faults view) o c)) (Takeover id view)
     by l None e = nothing_moves round.faults c k l (Takeover id view) (λ i z. absurd (cc z))
     by l (Some a) e =
-        let h = all_hold 1 (conditions round c (Takeover id view)) b in
+        let h = AllTrue-from_first_failing 1 (conditions round c (Takeover id view)) b in
         takeover_moves round.faults c k l id view a (stamped_own c id a e (k.stamped id h.1.0)) (sent_own c id a e h.1.0)
 step_moves round c (PickStep id view) k b = by (c.learned ++ learned_in_step round c (PickStep id view)) (attempt_of c id) refl
   where
     by : (l : List Learning) (o : Option AttemptState) → attempt_of c id ≡ o → Moves round.faults c (with_learned l (on_some (picking round view) o c)) (PickStep id view)
     by l None e = nothing_moves round.faults c k l (PickStep id view) (λ i z. absurd (cc z))
-    by l (Some a) e = picking_moves round.faults c k l round id view a refl (at_own c id a e) (takeover_of c a.id view) refl
+    by l (Some a) e = picking_moves round.faults c k l round id view a refl (attempt_of-own c id a e) (takeover_of c a.id view) refl
 step_moves round c (Stop id) k b = stop_moves round.faults c k _ id

@@ -2,11 +2,13 @@
 use Rattle.std.proofs.Common.{◌≡◌, ◌⊎◌, ◌∙◌, ◌<◌, ◌≤◌, ℕ, zero, suc, ◌+◌, ◌-◌, Bool, true, false, refl, sym, subst, ap, arith, inl, inr, List, [], ◌∷◌, ◌++◌, length, Option, Some, None, not, ◌&&◌, nat_lt, if◌then◌else◌}
 use Rattle.std.specs.Prelude.{is_some, is_none, slice_get, nat_le}
 use Rattle.std.proofs.lemmas.Bool.Decides.{nat_tests}
+use Rattle.std.proofs.lemmas.Bool.{and_from, and_parts}
 use Rattle.mk_lists.specs.Among.{Each, Each-weaker}
 use Rattle.mk_txn.specs.declared.TxnId.{TxnId}
 use Rattle.mk_txn.specs.declared.Outcome.{Outcome}
 use Rattle.mk_txn.specs.declared.Outcome.TheVariants.{Commit, Abort}
 use Rattle.mk_txn.specs.Transactions.{same_id}
+use Rattle.mk_txn.proofs.IdOrder.{same_id-tells}
 use Rattle.mk_words.specs.declared.Msg.{Msg}
 use Rattle.mk_words.specs.Links.{message}
 use Rattle.mk_script.specs.declared.lines.Point.{Point}
@@ -30,7 +32,7 @@ use Rattle.mk_driver.specs.Delivery.{follow_ups, taking, taking_by, by_fate, del
 use Rattle.mk_driver.specs.Settling.{was_validated, settle_by, settle_takeover_by, takeover_by, resume_with, resume_if, resume_by}
 use Rattle.mk_driver.specs.Stages.{at_stage, stopping, reach_by}
 use Rattle.mk_driver_laws.proofs.Sure.{IsSureWithPlace}
-use Rattle.mk_driver_laws.proofs.Lookups.{same_id-tells, passes-at, and_both}
+use Rattle.mk_driver_laws.proofs.Lookups.{passes-from_some}
 use Rattle.mk_driver_laws.proofs.Conditions.{none_fails}
 use Rattle.mk_driver_laws.proofs.ColumnMoves.{WasSent, stops, validates, ColumnFits, Moves, stays_unsent}
 use Rattle.mk_driver_laws.proofs.Taking.{step_moves}
@@ -266,8 +268,8 @@ module _ (rules : RuleLines) (round : Setting) (c : ColumnState) (k : ColumnFits
         (
           k.stamped id w,
           (
-            passes-at is_going (attempt_of c id) a e s,
-            (passes-at (λ x. is_some x.coord.proposed && is_none x.coord.learned) (attempt_of c id) a e (and_both (is_some a.coord.proposed) (is_none a.coord.learned) (ap is_some o) l), tt),
+            passes-from_some is_going (attempt_of c id) a e s,
+            (passes-from_some (λ x. is_some x.coord.proposed && is_none x.coord.learned) (attempt_of c id) a e (and_from (is_some a.coord.proposed) (is_none a.coord.learned) (ap is_some o) l), tt),
           ),
         ),
       ))
@@ -279,8 +281,8 @@ module _ (rules : RuleLines) (round : Setting) (c : ColumnState) (k : ColumnFits
         (
           k.stamped id w,
           (
-            passes-at is_going (attempt_of c id) a e s,
-            (passes-at (λ x. is_none x.coord.proposed && is_none x.coord.learned) (attempt_of c id) a e (and_both (is_none a.coord.proposed) (is_none a.coord.learned) (ap is_none o) l), tt),
+            passes-from_some is_going (attempt_of c id) a e s,
+            (passes-from_some (λ x. is_none x.coord.proposed && is_none x.coord.learned) (attempt_of c id) a e (and_from (is_none a.coord.proposed) (is_none a.coord.learned) (ap is_none o) l), tt),
           ),
         ),
       ))
@@ -299,17 +301,9 @@ module _ (rules : RuleLines) (round : Setting) (c : ColumnState) (k : ColumnFits
     where
       by : (b : Bool) → (was_validated c id && not a.stopped && is_none a.coord.learned) ≡ b → WorkedFits tasks (resume_if c id a b d)
       by true t =
-          let h : AllThree = three (was_validated c id) (not a.stopped) (is_none a.coord.learned) t in
-          resume_sent_fits tasks id a a.coord.proposed d e refl h.0 h.1 h.2 g
-        where
-          AllThree : Type 0
-          AllThree = (was_validated c id ≡ true) × (not a.stopped ≡ true) × (is_none a.coord.learned ≡ true)
-
-          three : (p q r : Bool) → (p && q && r) ≡ true → (p ≡ true) × (q ≡ true) × (r ≡ true)
-          three true true true z = (refl, refl, refl)
-          three true true false z = absurd (cc z)
-          three true false r z = absurd (cc z)
-          three false q r z = absurd (cc z)
+          let last = and_parts (was_validated c id && not a.stopped) (is_none a.coord.learned) t in
+          let firsts = and_parts (was_validated c id) (not a.stopped) last.0 in
+          resume_sent_fits tasks id a a.coord.proposed d e refl firsts.0 firsts.1 last.1 g
       by false t = g
 
   -- ---- stop lines

@@ -3,6 +3,7 @@ use Rattle.std.proofs.Common.{◌≡◌, ℕ, Bool, true, false, cond, refl, sym
 use Rattle.std.specs.Prelude.{find, option_map, is_none}
 use Rattle.std.specs.Map.{lookup}
 use Rattle.std.proofs.lemmas.Bool.Decides.{nat_tests}
+use Rattle.mk_lists.proofs.Lookups.{find-same}
 use Rattle.mk_txn.specs.declared.TxnId.{TxnId}
 use Rattle.mk_words.specs.declared.MsgKind.{MsgKind}
 use Rattle.mk_script.specs.declared.lines.FaultLine.{FaultLine}
@@ -25,10 +26,6 @@ find-push p (x ∷ xs) y = by (p x) (find-push p xs y)
         cond b (Some x) (find p (xs ++ y ∷ [])) ≡ cond (is_none (cond b (Some x) (find p xs))) (cond (p y) (Some y) None) (cond b (Some x) (find p xs))
     by true e = refl
     by false e = e
-
-find-alike : {X : Type 0} (p q : X → Bool) → ((x : X) → p x ≡ q x) → (xs : List X) → find p xs ≡ find q xs
-find-alike p q h [] = refl
-find-alike p q h (x ∷ xs) = grind (arith, h x, find-alike p q h xs)
 
 module _ {K L V : Type 0} (same : K → K → Bool) (tells : (a b : K) → same a b ≡ true → a ≡ b) (key : L → K) (value : L → V) where
   abbrev Are : List L → List (K × V) → Type 0
@@ -107,7 +104,7 @@ pub fate-kept : (faults : List FaultLine) (fates : List (Target × Fate)) → Ar
 fate-kept faults fates were kind id replica nth =
     were (target_of kind id replica nth)
     ∙ ap (option_map (λ (line : FaultLine). line.fate))
-    (find-alike (λ line. same_target (target_in line) (target_of kind id replica nth)) (is_fault_of kind id replica nth) (is_fault_of-target kind id replica nth) faults)
+    (find-same (λ line. same_target (target_in line) (target_of kind id replica nth)) (is_fault_of kind id replica nth) (is_fault_of-target kind id replica nth) faults)
 
 -- ---- points
 
@@ -130,4 +127,4 @@ pub point-kept : (stops : List StopLine) (points : List (Coordinator × Point)) 
 point-kept stops points were id =
     were (coordinator_of id)
     ∙ ap (option_map (λ (line : StopLine). line.point))
-    (find-alike (λ line. same_coordinator (coordinator_in line) (coordinator_of id)) (is_stop_of id) (is_stop_of-coordinator id) stops)
+    (find-same (λ line. same_coordinator (coordinator_in line) (coordinator_of id)) (is_stop_of id) (is_stop_of-coordinator id) stops)

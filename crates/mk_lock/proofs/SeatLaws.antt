@@ -17,17 +17,9 @@ use Rattle.mk_words.specs.Cells.{CellState}
 use Rattle.mk_lock.specs.declared.view.Held.{Held}
 use Rattle.mk_lock.specs.Seats.{SeatView, seat_view, held_of, resting, AreSeatsOf, IsJournalOf}
 use Rattle.mk_lists.specs.Among.{Each}
+use Rattle.mk_lists.proofs.Places.{slice_get-append_left, slice_get_push}
 use Rattle.mk_lock.specs.Turns.{view, fresh, held, IsKept, first_seat, other_seats, both_seats}
 use Rattle.mk_lock.proofs.StepLaws.{deals, closes}
-
-pub get-front : {X : Type 0} (xs ys : List X) (k : ℕ) → k < length xs → slice_get (xs ++ ys) k ≡ slice_get xs k
-get-front [] ys k below = absurd (omega arith)
-get-front (x ∷ xs) ys zero below = refl
-get-front (x ∷ xs) ys (suc k) below = get-front xs ys k (omega arith)
-
-pub get-last : {X : Type 0} (xs : List X) (x : X) → slice_get (xs ++ x ∷ []) (length xs) ≡ Some x
-get-last [] x = refl
-get-last (y ∷ xs) x = get-last xs x
 
 -- a seat with the numbers from this one on, at least one
 left_is : (count number : ℕ) → number < count → count - number ≡ suc (count - suc number)
@@ -50,8 +42,8 @@ dealt_right count number m n is below told =
 pub fresh_more : (name : TableId) (xs : List SeatView) (n : ℕ) → length xs ≡ n → ((k : ℕ) → k < n → slice_get xs k ≡ Some (seat_view name k []))
     → (k : ℕ) → k < n + 1 → slice_get (xs ++ seat_view name n [] ∷ []) k ≡ Some (seat_view name k [])
 fresh_more name xs n len here k below = dite (dec_lt k n)
-    (λ lt. get-front xs (seat_view name n [] ∷ []) k (omega arith) ∙ here k lt)
-    (λ ge. let is : k ≡ n = omega arith in ap (slice_get (xs ++ seat_view name n [] ∷ [])) (is ∙ sym len) ∙ (get-last xs (seat_view name n []) ∙ ap (λ (m : ℕ). Some (seat_view name m [])) (sym is)))
+    (λ lt. slice_get-append_left xs (seat_view name n [] ∷ []) k (omega arith) ∙ here k lt)
+    (λ ge. let is : k ≡ n = omega arith in ap (slice_get (xs ++ seat_view name n [] ∷ [])) (is ∙ sym len) ∙ (slice_get_push xs (seat_view name n []) (length xs) refl ∙ ap (λ (m : ℕ). Some (seat_view name m [])) (sym is)))
 
 -- seats that are fresh are the seats of the lock
 pub fresh_are_seats : (name : TableId) (count : ℕ) (xs : List SeatView) → length xs ≡ count → ((k : ℕ) → k < count → slice_get xs k ≡ Some (seat_view name k [])) → AreSeatsOf name count xs

@@ -6,6 +6,8 @@ use Rattle.std.proofs.Math.Seq.{take-suc}
 use Rattle.std.proofs.lemmas.Slice.Eq.{bytes_eq-Decides}
 use Rattle.std.proofs.lemmas.Option.{get_or_from_slice_get}
 use Rattle.mk_lists.specs.Among.{Among, Each, Each-append, AllDistinct, Among-append}
+use Rattle.mk_lists.proofs.Members.{Among-slice_get}
+use Rattle.mk_lists.proofs.Distinct.{AllDistinct-push}
 use Rattle.mk_spelling.specs.Words.{is_name}
 use Rattle.mk_spelling.specs.Fields.{place, one_on}
 use Rattle.std.proofs.lemmas.Option.{same_Some}
@@ -23,11 +25,6 @@ name_at [] k w h e = absurd cc
 name_at (x ∷ xs) zero w h e = subst (λ (n : List ℕ). is_name n ≡ true) (same_Some x w e) h.0
 name_at (x ∷ xs) (suc k) w h e = name_at xs k w h.1 e
 
-among_at : (names : List (List ℕ)) (k : ℕ) (w : List ℕ) → slice_get names k ≡ Some w → Among w names
-among_at [] k w e = absurd cc
-among_at (x ∷ xs) zero w e = inl (same_Some x w e)
-among_at (x ∷ xs) (suc k) w e = inr (among_at xs k w e)
-
 -- and its place is the first of that name
 pub place_at : (names : List (List ℕ)) (k : ℕ) (w : List ℕ) → AllDistinct names → slice_get names k ≡ Some w → place w names ≡ Some k
 place_at [] k w h e = absurd cc
@@ -35,7 +32,7 @@ place_at (x ∷ xs) zero w h e = rw ((bytes_eq-Decides w x).1 (sym (same_Some x 
 place_at (x ∷ xs) (suc k) w h e = here (bytes_eq w x) refl (place_at xs k w h.1 e)
   where
     here : (b : Bool) → bytes_eq w x ≡ b → place w xs ≡ Some k → cond b (Some 0) (one_on (place w xs)) ≡ Some (suc k)
-    here true b rest = absurd (h.0 (among_at xs k x (e ∙ ap (λ (n : List ℕ). some_text n) ((bytes_eq-Decides w x).0 b))))
+    here true b rest = absurd (h.0 (Among-slice_get xs k x (e ∙ ap (λ (n : List ℕ). some_text n) ((bytes_eq-Decides w x).0 b))))
     here false b rest = ap one_on rest
 
 other_text : (w x : List ℕ) → bytes_eq w x ≡ false → x ≡ w → ⊥
@@ -51,19 +48,12 @@ not_among (x ∷ xs) w e = here (bytes_eq w x) refl (place w xs) (not_among xs w
     here false b (Some n) ih k = absurd cc
     here false b None ih k = λ a. elim a [ inl same ↦ other_text w x b same | inr c ↦ ih refl c ]
 
-distinct_push : (names : List (List ℕ)) (w : List ℕ) → AllDistinct names → ¬ Among w names → AllDistinct (names ++ w ∷ [])
-distinct_push [] w h fresh = (λ a. a, tt)
-distinct_push (x ∷ xs) w h fresh = (
-  λ a. elim (Among-append x xs (w ∷ []) a) [ inl b ↦ h.0 b | inr b ↦ elim b [ inl e ↦ fresh (inl (sym e)) | inr c ↦ c ] ],
-  distinct_push xs w h.1 (λ a. fresh (inr a)),
-)
-
 -- a new name may stand last
 pub pushed : (list : NameList) (w : List ℕ) → IsNameList list → is_name w ≡ true → place w list.names ≡ None → length list.names < list.limit
     → IsNameList (record list { names = list.names ++ w ∷ [] })
 pushed list w h well_named fresh room = record {
   named = Each-append (λ name. is_name name ≡ true) list.names (w ∷ []) h.named (well_named, tt);
-  distinct = distinct_push list.names w h.distinct (not_among list.names w fresh);
+  distinct = AllDistinct-push list.names w h.distinct (not_among list.names w fresh);
   within = omega (arith, length-append list.names (w ∷ []));
   counted = h.counted;
 }

@@ -26,11 +26,11 @@ use Rattle.mk_column_laws.specs.Moves.{EntryMove, ServesAttempt, IsMatched, past
 use Rattle.mk_column_laws.specs.Moves.EntryMove.{EntryStays, EntryOpens, EntryVotes, EntryPromises, EntryAccepts, EntryFinishes}
 use Rattle.mk_column_laws.specs.Facts.{Facts, Grows}
 use Rattle.mk_column_laws.specs.Identity.{Identity}
-use Rattle.mk_column_laws.specs.KeyActs.{WasDone, IsInEpoch, ActMove, act_at, act_now}
-use Rattle.mk_column_laws.specs.KeyActs.ActMove.{NoAct, ActFetched, ActChecked, ActVoted, ActFinished}
+use Rattle.mk_column_laws.specs.KeyActs.{WasDone, IsInEpoch, act_at}
+use Rattle.mk_column_laws.proofs.ActMoves.ActMove.{NoAct, ActFetched, ActChecked, ActVoted, ActFinished}
 use Rattle.mk_column_laws.proofs.Growing.{grows}
 use Rattle.mk_column_laws.proofs.KeptActs.{serves-epoch}
-use Rattle.mk_column_laws.proofs.ActMoves.{act_moves}
+use Rattle.mk_column_laws.proofs.ActMoves.{ActMove, act_now, act_moves}
 use Rattle.mk_column_laws.proofs.Rounds.{event_facts, event_moves}
 use Rattle.mk_record_laws.specs.Finishing.{CommitsAreDone}
 use Rattle.mk_record_laws.proofs.StepShapes.{step_shape}

@@ -8,12 +8,13 @@ use Rattle.mk_words.specs.Promises.{PromiseState}
 use Rattle.mk_merge_laws.specs.Composition.{StandsInOrder}
 use Rattle.mk_record_laws.specs.Attempts.{AttemptsAreDistinct, AttemptsAreFound, UnreadIsNotStamped}
 use Rattle.mk_record_laws.specs.Listed.{LearningsAreListed}
-use Rattle.mk_run_laws.specs.Dates.{ServedWas, ServersEntered, EnteredWas}
+use Rattle.mk_run_laws.specs.Dates.{ServedWas, ServersEntered}
 use Rattle.mk_run_laws.specs.Joins.{EpochsJoin}
 use Rattle.mk_run_laws.specs.Learnt.{LogsAreLearnt, BasesAreLearnt}
 use Rattle.mk_run_laws.specs.Lifts.{ItemsInRuns}
 use Rattle.mk_run_laws.specs.RunLaws.{ReadsInRuns, IdsInRuns, StampsNameColumns}
 use Rattle.mk_base_laws.specs.Marks.{BaseMarks}
+use Rattle.mk_fate_laws.specs.Reasons.{EnteredInForce}
 use Rattle.mk_fate_laws.specs.Fates.{BackedRests, RestsStand, CommitsFit}
 use Rattle.mk_cause_laws.proofs.Lower.{Lower}
 use Rattle.mk_safety.specs.Agreeing.{LearningsRest}
@@ -35,7 +36,7 @@ pub record CommitLaws : Type 0 where
   pub apart : StampsNameColumns
   pub served : ServedWas
   pub servers : ServersEntered
-  pub entered : EnteredWas
+  pub in_force : EnteredInForce
   pub epochs : EpochsJoin
   pub rest : LearningsRest
   pub logs : LogsAreLearnt

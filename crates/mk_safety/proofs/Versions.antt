@@ -39,21 +39,17 @@ use Rattle.mk_model.specs.ColumnState.{attempt_of, is_settled}
 use Rattle.mk_column_laws.specs.Moments.{PastAct}
 use Rattle.mk_column_laws.specs.KeyActs.{act_at}
 use Rattle.mk_column_laws.specs.Reading.{ReadsOf}
-use Rattle.mk_model.specs.EpochState.{EpochState, MadeBase, first_epochs, base_for, promises_for}
-use Rattle.mk_model.specs.Force.{InForce}
-use Rattle.mk_epoch_laws.specs.BaseLaws.{BasesMade, KeptGrows, IsHeld}
-use Rattle.mk_epoch_laws.specs.Turns.{after_turns}
+use Rattle.mk_model.specs.EpochState.{MadeBase, base_for, promises_for}
+use Rattle.mk_epoch_laws.specs.BaseLaws.{BasesMade}
 use Rattle.mk_epoch_laws.proofs.Paths.{made_or_first}
-use Rattle.mk_history.specs.declared.RoundLog.{RoundLog}
 use Rattle.mk_history.specs.Histories.{History}
 use Rattle.mk_history.specs.Learning.{commits}
-use Rattle.mk_history.specs.Legality.{IsLegal, EachRoundLegal}
+use Rattle.mk_history.specs.Legality.{IsLegal}
 use Rattle.mk_history.specs.Shape.{HasShape}
 use Rattle.mk_history.specs.Teaching.{entered_round}
-use Rattle.mk_history.specs.Wholes.{first_state, last_state}
-use Rattle.mk_run_laws.specs.Ends.{last_moment, epochs_after, run_epoch}
+use Rattle.mk_history.specs.Wholes.{last_state}
+use Rattle.mk_run_laws.specs.Ends.{last_moment, run_epoch}
 use Rattle.mk_run_laws.specs.Learnt.{IsLearnt}
-use Rattle.mk_run_laws.specs.RunEvents.{turns_of}
 use Rattle.mk_run_laws.specs.TaughtIn.{taught_in}
 use Rattle.mk_run_laws.specs.Tenures.{DatedEntry, entries_in, tenure_of, act_in}
 use Rattle.mk_run_laws.proofs.Tenured.{entries_in-append}
@@ -100,20 +96,6 @@ version_is : (wts version : Stamp) (value held : Value) → Version wts held ≡
 version_is wts version value held e = (cc e, cc e)
 
 module _ (laws : CommitLaws) (run : History) (legal : IsLegal run) where
-  -- the base of an epoch that was entered is in force
-  in_force : (epoch j : ℕ) → entered_round run epoch ≡ Some j → InForce (last_state run).epochs epoch
-  in_force epoch j entered =
-      let e = laws.entered run legal epoch j entered in
-      let s = laws.below.split run e.done e.rest (subst (EachRoundLegal run (first_state run)) e.split legal) in
-      let grows : KeptGrows (epochs_after run e.done) (epochs_after run (e.done ++ e.rest)) =
-      subst (λ (x : EpochState). KeptGrows x (epochs_after run (e.done ++ e.rest))) s.to_done
-      (subst (KeptGrows (after_turns (first_epochs run.faults) (turns_of run e.done))) s.to_end (laws.below.grows run.faults (turns_of run e.done) s.more s.early s.late)) in
-      held_force epoch (subst (λ (rounds : List RoundLog). IsHeld (epochs_after run rounds) epoch) (sym e.split) (grows.held epoch e.held))
-    where
-      held_force : (e : ℕ) → IsHeld (last_state run).epochs e → InForce (last_state run).epochs e
-      held_force e (inl first) = inl first
-      held_force e (inr many) = inr ([], many)
-
   -- an outcome that a column lists was learned
   listed_learnt : (c : ℕ) → c < run.columns → (id : TxnId) (o : Outcome) → IsListed (last_moment run c).column.learned id o → IsLearnt run id o
   listed_learnt c lt id o (way, m) = laws.logs run c lt (record { id = id; outcome = o; way = way }) m
@@ -189,7 +171,7 @@ module _ (laws : CommitLaws) (run : History) (legal : IsLegal run) where
                 let n = last_moment run o.column in
                 let list = (laws.listed (taught_in run) (laws.below.teaching run) n (reached laws run legal o.column o.in_run) f.txn.id).own o.attempt out found h in
                 let rests = laws.backed run legal o.column o.in_run f.txn.id out n.past.now (((facts laws run legal o.column o.in_run).attempts f.txn.id o.attempt found).learned out h) in
-                let agrees = laws.stand run shape legal o.column o.in_run f.txn.id out rests made.epoch (in_force made.epoch j entered) low in
+                let agrees = laws.stand run shape legal o.column o.in_run f.txn.id out rests made.epoch (laws.in_force run legal made.epoch j entered) low in
                 subst (IsLearnt run f.txn.id) (is_commit-tells out (sym agrees ∙ stands)) (listed_learnt o.column o.in_run f.txn.id out list)
 
         by : (o : IsOf run f.txn) → (b : Bool) → covers made.base.marks f.txn.id ≡ b → IsLearnt run f.txn.id Commit

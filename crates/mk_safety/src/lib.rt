@@ -66,6 +66,7 @@ pub fn commits_are_explained()
     mk_base_laws::bases_have_members();
     mk_base_laws::votes_fit_bases();
     mk_fate_laws::decisions_stand();
+    mk_fate_laws::bases_have_reasons();
 }
 
 /// Every abort that is learned has a cause that names what happened.

@@ -3,6 +3,7 @@ use Rattle.std.proofs.Common.{◌≡◌, ◌≢◌, ℕ, zero, suc, ◌*◌, ◌
 use Rattle.std.specs.Fmt.{decimal}
 use Rattle.std.specs.List.{list_any, join_with_byte, AllByRecursion}
 use Rattle.std.proofs.lemmas.Fmt.{decimal_digit, decimal_nonempty}
+use Rattle.std.proofs.lemmas.Bool.{le-leb, lt-ltb, not_from_false}
 use Rattle.mk_spelling.specs.Words.{words, cut, is_name, is_printable, is_empty}
 use Rattle.mk_spelling.specs.Fields.{named}
 use Rattle.mk_spelling.proofs.Cuts.{Lacks, Lacks-name, Lacks-append, cut-parts}
@@ -31,7 +32,7 @@ use Rattle.mk_script.specs.Grammar.Line.{Opens, Sizes, Declares, Retries, Inject
 use Rattle.mk_script.specs.Faults.{attempt_of, fault_result, stop_result, txn_result, takeover_result, by_words, is_passed_over, line_result}
 use Rattle.mk_script.proofs.Shapes.{mentions-again}
 use Rattle.mk_script.proofs.Printable.{printed_line}
-use Rattle.mk_script.proofs.Passed.{to_rounds, to_behind, is_below, is_at_most, none_test}
+use Rattle.mk_script.proofs.Passed.{to_rounds, to_behind, none_test}
 
 -- ---- words
 
@@ -191,9 +192,6 @@ version_again (suc zero) low high = rw (decimal_digit 1 (omega arith)) refl
 version_again (suc (suc zero)) low high = rw (decimal_digit 2 (omega arith)) refl
 version_again (suc (suc (suc v))) low high = absurd (omega arith)
 
-false_test : (b : Bool) → b ≡ false → not b ≡ true
-false_test b e = rw e refl
-
 attempt-again : (s : State) (name : List ℕ) (id : TxnId) → IsAttempt s name id → attempt_of s (name, decimal id.seq) ≡ Ok id
 attempt-again s name id h = rw (number-again 1 16384 id.seq (omega arith) h.low h.high, h.well_named, h.declared) refl
 
@@ -208,51 +206,51 @@ words_behind (w ∷ ws) = ws
 fault-again : (s : State) (name : List ℕ) (fault : FaultLine) → s.size ≤ 3 → IsFault s name fault
     → fault_result s (words_behind (line_words (Injects name fault))) ≡ Ok (after s (Injects name fault))
 fault-again s name fault sized h =
-    rw (id-cut s name fault.id h.attempt, h.section, kind_again fault.kind, attempt-again s name fault.id h.attempt, number-again 0 (2 * s.size) fault.replica (omega arith) (omega arith) h.replica_fits, number-again 1 255 fault.nth (omega arith) h.nth_low h.nth_high, fate_again fault.fate h.injected, is_below _ 1024 h.few, false_test _ h.fresh) refl
+    rw (id-cut s name fault.id h.attempt, h.section, kind_again fault.kind, attempt-again s name fault.id h.attempt, number-again 0 (2 * s.size) fault.replica (omega arith) (omega arith) h.replica_fits, number-again 1 255 fault.nth (omega arith) h.nth_low h.nth_high, fate_again fault.fate h.injected, lt-ltb _ 1024 h.few, not_from_false _ h.fresh) refl
 
 stop-again : (s : State) (name : List ℕ) (stop : StopLine) → IsStop s name stop
     → stop_result s (words_behind (line_words (Halts name stop))) ≡ Ok (after s (Halts name stop))
 stop-again s name stop h =
-    rw (id-cut s name stop.id h.attempt, h.section, attempt-again s name stop.id h.attempt, point_again stop.point, is_below _ 1024 h.few, false_test _ h.fresh) refl
+    rw (id-cut s name stop.id h.attempt, h.section, attempt-again s name stop.id h.attempt, point_again stop.point, lt-ltb _ 1024 h.few, not_from_false _ h.fresh) refl
 
 txn-again : (s : State) (name : List ℕ) (client clock : ℕ) (ms : List Mention) → IsTxn s name client clock ms
     → txn_result s (name ∷ decimal clock ∷ map mention_text ms) ≡ Ok (after s (Tries name client clock ms))
 txn-again s name client clock [] h = absurd (omega (arith, h.some))
 txn-again s name client clock (m ∷ ms) h =
     let r = mentions-again s.version (m ∷ ms) h.mentions_fit in
-    rw (r.1, to_rounds s.section h.section, h.well_named, h.declared, number-again 0 (2 ^ 61) clock (omega arith) (omega arith) h.clock_fits, r.0, is_at_most _ 16 h.few, is_at_most _ 256 h.keys, is_below _ 4096 h.txns) refl
+    rw (r.1, to_rounds s.section h.section, h.well_named, h.declared, number-again 0 (2 ^ 61) clock (omega arith) (omega arith) h.clock_fits, r.0, le-leb _ 16 h.few, le-leb _ 256 h.keys, lt-ltb _ 4096 h.txns) refl
 
 takeover-again : (s : State) (name : List ℕ) (id : TxnId) (view : ℕ) → IsTakeover s name id view
     → takeover_result s (words_behind (line_words (TakesOver name id view))) ≡ Ok (after s (TakesOver name id view))
 takeover-again s name id view h =
-    rw (id-cut s name id h.attempt, to_rounds s.section h.section, attempt-again s name id h.attempt, number-again 1 15 view (omega arith) h.view_low h.view_high, is_below _ 1024 h.few) refl
+    rw (id-cut s name id h.attempt, to_rounds s.section h.section, attempt-again s name id h.attempt, number-again 1 15 view (omega arith) h.view_low h.view_high, lt-ltb _ 1024 h.few) refl
 
 global-again : (s : State) (line : GlobalLine) → s.size ≤ 3 → IsGlobal s line → by_words s (global_words line) ≡ Ok (after s (Changes line))
 global-again s (globals.Wipe replica) sized h =
-    rw (to_behind s.section h.section, number-again 0 (2 * s.size) replica (omega arith) (omega arith) h.fits, is_below _ 256 h.few) refl
+    rw (to_behind s.section h.section, number-again 0 (2 * s.size) replica (omega arith) (omega arith) h.fits, lt-ltb _ 256 h.few) refl
 global-again s (globals.Ask epoch) sized h =
-    rw (to_behind s.section h.section, number-again 1 1000 epoch (omega arith) h.fits.0 h.fits.1, is_below _ 256 h.few) refl
+    rw (to_behind s.section h.section, number-again 1 1000 epoch (omega arith) h.fits.0 h.fits.1, lt-ltb _ 256 h.few) refl
 global-again s (globals.Promise epoch replica) sized h =
-    rw (to_behind s.section h.section, number-again 1 1000 epoch (omega arith) h.fits.0 h.fits.1, number-again 0 (2 * s.size) replica (omega arith) (omega arith) h.fits.2, is_below _ 256 h.few) refl
+    rw (to_behind s.section h.section, number-again 1 1000 epoch (omega arith) h.fits.0 h.fits.1, number-again 0 (2 * s.size) replica (omega arith) (omega arith) h.fits.2, lt-ltb _ 256 h.few) refl
 global-again s (globals.Merge epoch) sized h =
-    rw (to_behind s.section h.section, number-again 1 1000 epoch (omega arith) h.fits.0 h.fits.1, is_below _ 256 h.few) refl
+    rw (to_behind s.section h.section, number-again 1 1000 epoch (omega arith) h.fits.0 h.fits.1, lt-ltb _ 256 h.few) refl
 global-again s (globals.Adopt epoch replica) sized h =
-    rw (to_behind s.section h.section, number-again 1 1000 epoch (omega arith) h.fits.0 h.fits.1, number-again 0 (2 * s.size) replica (omega arith) (omega arith) h.fits.2, is_below _ 256 h.few) refl
+    rw (to_behind s.section h.section, number-again 1 1000 epoch (omega arith) h.fits.0 h.fits.1, number-again 0 (2 * s.size) replica (omega arith) (omega arith) h.fits.2, lt-ltb _ 256 h.few) refl
 global-again s (globals.Enter epoch) sized h =
-    rw (to_behind s.section h.section, number-again 1 1000 epoch (omega arith) h.fits.0 h.fits.1, is_below _ 256 h.few) refl
+    rw (to_behind s.section h.section, number-again 1 1000 epoch (omega arith) h.fits.0 h.fits.1, lt-ltb _ 256 h.few) refl
 
 words-again : (s : State) (line : Line) → s.size ≤ 3 → Fits s line → by_words s (line_words line) ≡ Ok (after s line)
 words-again s (Opens v) sized h = rw (h.0, version_again v h.1 h.2) refl
 words-again s (Sizes f) sized h = rw (h.0, number-again 1 3 f (omega arith) h.1 h.2) refl
 words-again s (Declares name column home) sized h =
-    rw (h.section, h.well_named, number-again 0 7 column (omega arith) (omega arith) h.column_fits, number-again 0 (2 * s.size) home (omega arith) (omega arith) h.home_fits, is_below _ 64 h.few, none_test _ h.fresh) refl
+    rw (h.section, h.well_named, number-again 0 7 column (omega arith) (omega arith) h.column_fits, number-again 0 (2 * s.size) home (omega arith) (omega arith) h.home_fits, lt-ltb _ 64 h.few, none_test _ h.fresh) refl
 words-again s (Retries n) sized h = rw (h.0, number-again 0 3 n (omega arith) (omega arith) h.1, none_test _ h.2) refl
 words-again s (Injects name fault) sized h = fault-again s name fault sized h
 words-again s (Halts name stop) sized h = stop-again s name stop h
 words-again s (Tries name client clock ms) sized h = txn-again s name client clock ms h
 words-again s (TakesOver name id view) sized h = takeover-again s name id view h
 words-again s (Changes line) sized h = global-again s line sized h
-words-again s NextRound sized h = rw (to_behind s.section h.0, is_below _ 15 h.1) refl
+words-again s NextRound sized h = rw (to_behind s.section h.0, lt-ltb _ 15 h.1) refl
 
 -- a keyword does not begin with #
 not_passed : (line : Line) → is_passed_over (spelling line) ≡ false

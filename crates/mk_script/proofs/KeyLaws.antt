@@ -17,29 +17,10 @@ use Rattle.mk_script.specs.Scripts.{or_zero}
 use Rattle.mk_script.specs.Grammar.{Mention, key_of, keys_after, number_of, item_of}
 use Rattle.mk_script.specs.LineWords.{proc_text, proc_list}
 use Rattle.mk_script.specs.Grammar.Mention.{Reads, Writes, Computes, Deletes}
+use Rattle.mk_script.specs.GrownKeys.{keys_grow, length_grows}
 use Rattle.mk_script.specs.ItemShapes.{Shape, shape, mention_of, mentions_of}
 use Rattle.mk_script.specs.ItemShapes.Shape.{ReadShape, WriteShape, ComputeShape, DeleteShape}
 use Rattle.mk_script.specs.Seen.{ok_or_nil, mentioned, IsFull}
-
-add_grows : (keys : List (List ℕ)) (w : List ℕ) → (more : List (List ℕ)) × (with_name keys w ≡ keys ++ more)
-add_grows keys w = here (is_some (place w keys)) refl
-  where
-    here : (b : Bool) → is_some (place w keys) ≡ b → (more : List (List ℕ)) × (cond b keys (keys ++ w ∷ []) ≡ keys ++ more)
-    here true e = ([], sym (append-nil keys))
-    here false e = (w ∷ [], refl)
-
--- the keys only grow
-pub keys_grow : (keys : List (List ℕ)) (ms : List Mention) → (more : List (List ℕ)) × (keys_after keys ms ≡ keys ++ more)
-keys_grow keys [] = ([], sym (append-nil keys))
-keys_grow keys (m ∷ ms) =
-    let a = add_grows keys (key_of m) in
-    let g = keys_grow (with_name keys (key_of m)) ms in
-    (a.0 ++ g.0, g.1 ∙ ap (λ (x : List (List ℕ)). x ++ g.0) a.1 ∙ append_assoc keys a.0 g.0)
-
-pub length_grows : (keys : List (List ℕ)) (ms : List Mention) → length keys ≤ length (keys_after keys ms)
-length_grows keys ms =
-    let g = keys_grow keys ms in
-    omega (arith, ap length g.1, length-append keys g.0)
 
 pub full_stays : (e : LineError) (keys : List (List ℕ)) (ms : List Mention) → IsFull e keys → IsFull e (keys_after keys ms)
 full_stays errors.Memory keys ms h = tt

@@ -4,7 +4,7 @@ use Rattle.std.specs.Prelude.{is_some}
 use Rattle.std.specs.Fmt.{decimal}
 use Rattle.std.specs.Str.{bytes_eq}
 use Rattle.std.specs.List.{list_any}
-use Rattle.std.proofs.lemmas.Bool.{eqb-true}
+use Rattle.std.proofs.lemmas.Bool.{eqb-true, leb-true, ltb-true, not-true}
 use Rattle.std.proofs.lemmas.Fmt.{decimal_digit}
 use Rattle.mk_spelling.specs.declared.fault.TextFault.{TextFault}
 use Rattle.mk_spelling.specs.declared.fault.TextFault.TheVariants as faults
@@ -32,7 +32,7 @@ use Rattle.mk_script.specs.Grammar.Line.{Opens, Sizes, Declares, Retries, Inject
 use Rattle.mk_script.specs.Faults.{at_start, at_size, in_prelude, in_rounds, behind_prelude, attempt_of, ask_line, merge_line, enter_line, promise_line, adopt_line, version_result, size_result, client_result, retry_result, fault_result, stop_result, txn_result, takeover_result, global_result, wipe_result, epoch_result, member_result, round_result, by_keyword, by_words, is_passed_over, counted_result, line_result}
 use Rattle.mk_script.specs.ItemShapes.{are_items, mentions_of}
 use Rattle.mk_script.proofs.Shapes.{mentions-back}
-use Rattle.mk_script.proofs.Passed.{start_from, size_from, prelude_from, rounds_from, behind_from, none_from, false_from, below, at_most}
+use Rattle.mk_script.proofs.Passed.{start_from, size_from, prelude_from, rounds_from, behind_from, none_from}
 
 -- these words are a line that fits, and leaves t
 abbrev IsOf : State → Keyword → List (List ℕ) → State → Type 0
@@ -139,7 +139,7 @@ client-back s (name ∷ column ∷ home ∷ []) t sized e =
       Declares name c.0 h.0,
       ap (λ (x : List ℕ). keyword_text keywords.Client ∷ name ∷ x ∷ home ∷ []) cn.0
           ∙ ap (λ (x : List ℕ). keyword_text keywords.Client ∷ name ∷ decimal c.0 ∷ x ∷ []) hn.0,
-      record { section = prelude_from s.section a.0; well_named = b.0; column_fits = cn.2; home_fits = hn.2; few = below _ 64 m.0; fresh = none_from _ w.0 },
+      record { section = prelude_from s.section a.0; well_named = b.0; column_fits = cn.2; home_fits = hn.2; few = ltb-true _ 64 m.0; fresh = none_from _ w.0 },
       sym (ok_is _ t w.1),
     )
 
@@ -189,7 +189,7 @@ fault-back s (kind_word ∷ id_word ∷ replica_word ∷ nth_word ∷ fate_word 
           ∙ ap (λ (x : List ℕ). keyword_text keywords.Fault ∷ kind_text k.0 ∷ id_text p.0 i.0.seq ∷ x ∷ nth_word ∷ fate_word ∷ []) rn.0
           ∙ ap (λ (x : List ℕ). keyword_text keywords.Fault ∷ kind_text k.0 ∷ id_text p.0 i.0.seq ∷ decimal r.0 ∷ x ∷ fate_word ∷ []) nn.0
           ∙ ap (λ (x : List ℕ). keyword_text keywords.Fault ∷ kind_text k.0 ∷ id_text p.0 i.0.seq ∷ decimal r.0 ∷ decimal n.0 ∷ x ∷ []) fn,
-      record { section = prelude_from s.section a.0; attempt = id.attempt; replica_fits = rn.2; nth_low = nn.1; nth_high = nn.2; injected = injected fate_word f.0 found_fate; few = below _ 1024 m.0; fresh = false_from _ w.0 },
+      record { section = prelude_from s.section a.0; attempt = id.attempt; replica_fits = rn.2; nth_low = nn.1; nth_high = nn.2; injected = injected fate_word f.0 found_fate; few = ltb-true _ 1024 m.0; fresh = not-true _ w.0 },
       sym (ok_is _ t w.1),
     )
   where
@@ -236,7 +236,7 @@ stop-back s (id_word ∷ word ∷ []) t e =
     let id_is : id_word ≡ id_text p.0 i.0.seq = cut_is.parts ∙ ap (λ (x : List ℕ). p.0 ++ 46 ∷ x) id.seq in (
       Halts p.0 stop,
       ap (λ (x : List ℕ). keyword_text keywords.Stop ∷ x ∷ word ∷ []) id_is ∙ ap (λ (x : List ℕ). keyword_text keywords.Stop ∷ id_text p.0 i.0.seq ∷ x ∷ []) pn,
-      record { section = prelude_from s.section a.0; attempt = id.attempt; few = below _ 1024 m.0; fresh = false_from _ w.0 },
+      record { section = prelude_from s.section a.0; attempt = id.attempt; few = ltb-true _ 1024 m.0; fresh = not-true _ w.0 },
       sym (ok_is _ t w.1),
     )
   where
@@ -287,7 +287,7 @@ txn-back s (name ∷ clock ∷ first ∷ more) t e =
       Tries name client time ms,
       ap (λ (x : List ℕ). keyword_text keywords.Txn ∷ name ∷ x ∷ items) tn.0
           ∙ ap (λ (x : List (List ℕ)). keyword_text keywords.Txn ∷ name ∷ decimal time ∷ x) mn.0,
-      record { section = rounds_from s.section a.0; well_named = n.0; declared = cn; clock_fits = tn.2; mentions_fit = mn.1; some = some_mention ms (mn.0); few = at_most _ 16 m1.0; keys = at_most _ 256 m2.0; txns = below _ 4096 m3.0 },
+      record { section = rounds_from s.section a.0; well_named = n.0; declared = cn; clock_fits = tn.2; mentions_fit = mn.1; some = some_mention ms (mn.0); few = leb-true _ 16 m1.0; keys = leb-true _ 256 m2.0; txns = ltb-true _ 4096 m3.0 },
       sym (ok_is _ t m3.1),
     )
   where
@@ -313,7 +313,7 @@ takeover-back s (id_word ∷ word ∷ []) t e =
       TakesOver p.0 i.0 v.0,
       ap (λ (x : List ℕ). keyword_text keywords.Takeover ∷ x ∷ word ∷ []) id_is
           ∙ ap (λ (x : List ℕ). keyword_text keywords.Takeover ∷ id_text p.0 i.0.seq ∷ x ∷ []) vn.0,
-      record { section = rounds_from s.section a.0; attempt = id.attempt; view_low = vn.1; view_high = vn.2; few = below _ 1024 m.0 },
+      record { section = rounds_from s.section a.0; attempt = id.attempt; view_low = vn.1; view_high = vn.2; few = ltb-true _ 1024 m.0 },
       sym (ok_is _ t m.1),
     )
   where
@@ -331,7 +331,7 @@ global-back : (s : State) (k : Keyword) (ws : List (List ℕ)) (line : GlobalLin
     → behind_prelude s.section ≡ true → GlobalFits s.size line → global_result s line ≡ Ok t → IsOf s k ws t
 global-back s k ws line t text section fits e =
     let m = need_ok (ltb (total global_count s) 256) faults.Many (Ok (after s (Changes line))) t e in
-    (Changes line, text, record { section = behind_from s.section section; fits = fits; few = below _ 256 m.0 }, sym (ok_is _ t m.1))
+    (Changes line, text, record { section = behind_from s.section section; fits = fits; few = ltb-true _ 256 m.0 }, sym (ok_is _ t m.1))
 
 wipe-back : (s : State) (ws : List (List ℕ)) (t : State) → s.size ≤ 3 → wipe_result s ws ≡ Ok t → IsOf s keywords.Wipe ws t
 wipe-back s [] t sized e = absurd cc
@@ -412,7 +412,7 @@ round-back s (x ∷ ws) t e = absurd cc
 round-back s [] t e =
     let a = need_ok (behind_prelude s.section) faults.Order (need (ltb (length s.rounds) 15) faults.Many >> Ok (after s NextRound)) t e in
     let m = need_ok (ltb (length s.rounds) 15) faults.Many (Ok (after s NextRound)) t a.1 in
-    (NextRound, refl, (behind_from s.section a.0, below _ 15 m.0), sym (ok_is _ t m.1))
+    (NextRound, refl, (behind_from s.section a.0, ltb-true _ 15 m.0), sym (ok_is _ t m.1))
 
 keyword-back : (s : State) (k : Keyword) (ws : List (List ℕ)) (t : State) → s.size ≤ 3 → by_keyword s k ws ≡ Ok t → IsOf s k ws t
 keyword-back s keywords.Meerkat ws t sized e = version-back s ws t e

@@ -60,10 +60,6 @@ none_from (Some x) e = absurd cc
 pub none_test : {A : Type 0} (o : Option A) → o ≡ None → not (is_some o) ≡ true
 none_test o e = rw e refl
 
-pub false_from : (b : Bool) → not b ≡ true → b ≡ false
-false_from false e = refl
-false_from true e = absurd cc
-
 -- a value of the first list, else one of the second
 abbrev pub one_or : {A : Type 0} → Option A → Option A → Option A
 one_or None o = o
@@ -78,15 +74,3 @@ named_append {A} text (x ∷ xs) ys word = here (bytes_eq (text x) word) (named_
         → cond t (Some x) (named text (xs ++ ys) word) ≡ one_or (cond t (Some x) (named text xs word)) (named text ys word)
     here true rest = refl
     here false rest = rest
-
-pub below : (a b : ℕ) → ltb a b ≡ true → a < b
-below a b e = grind (arith, nat_tests)
-
-pub at_most : (a b : ℕ) → leb a b ≡ true → a ≤ b
-at_most a b e = grind (arith, nat_tests)
-
-pub is_below : (a b : ℕ) → a < b → ltb a b ≡ true
-is_below a b e = grind (arith, nat_tests)
-
-pub is_at_most : (a b : ℕ) → a ≤ b → leb a b ≡ true
-is_at_most a b e = grind (arith, nat_tests)

@@ -2,7 +2,7 @@
 use Rattle.std.proofs.Common.{◌≡◌, ℕ, Bool, true, false, not, eqb, ◌||◌, List, [], ◌∷◌, map, refl, sym, ap, inl, inr, subst, arith}
 use Rattle.std.specs.Prelude.{codes}
 use Rattle.std.specs.List.{list_any, list_all}
-use Rattle.std.proofs.lemmas.Bool.{eqb-true}
+use Rattle.std.proofs.lemmas.Bool.{eqb-true, eq-eqb}
 use Rattle.mk_lists.specs.Among.{Among}
 use Rattle.mk_lists.proofs.Tests.{list_any-from_Among, list_all-among}
 use Rattle.mk_proc.specs.declared.Item.TheVariants.{Read, Write}
@@ -27,12 +27,9 @@ are_apart a b = eqb a.client b.client || not (meet (keys_of a) (keys_of b))
 abbrev all_apart : List TxnLine → Bool
 all_apart txns = list_all (λ a. list_all (are_apart a) txns) txns
 
-same_key : (n : ℕ) → eqb n n ≡ true
-same_key n = grind arith
-
 meet-at : (keys others : List ℕ) (key : ℕ) → Among key keys → Among key others → meet keys others ≡ true
 meet-at keys others key a b =
-    list_any-from_Among (λ k. list_any (eqb k) others) keys key a (list_any-from_Among (eqb key) others key b (same_key key))
+    list_any-from_Among (λ k. list_any (eqb k) others) keys key a (list_any-from_Among (eqb key) others key b ((eq-eqb key key refl)))
 
 are_apart-holds : (a b : TxnLine) → are_apart a b ≡ true → AreApart a b
 are_apart-holds a b e key at_a at_b = here (eqb a.client b.client) refl e

@@ -1,6 +1,7 @@
 pub mod Scripts
 pub mod LineWords
 pub mod Grammar
+pub mod GrownKeys
 pub mod ItemShapes
 pub mod Faults
 pub mod Numbered

@@ -1,6 +1,6 @@
 use Rattle.std.proofs.Common.{arith}
 use Rattle.mk_client.proofs.BufferLaws.{writes_of-done}
-use Rattle.mk_client.proofs.DistinctKeys.{are_distinct-writes_of, length-writes_of}
+use Rattle.mk_client.specs.DistinctKeys.{are_distinct-writes_of, length-writes_of}
 use Rattle.mk_client.proofs.attempt.computed_writes.Goals as goal
 
 pub returns-clause-distinct : goal.returns-clause-distinct

@@ -1,6 +1,7 @@
 use Rattle.std.proofs.Common.{◌∙◌, sym, subst, ap}
 use Rattle.mk_driver.specs.Keeping.{IsRising, numbers_of}
-use Rattle.mk_driver.proofs.RoundLaws.{submitted, asked_numbers}
+use Rattle.mk_driver.specs.RisingNumbers.{asked_numbers}
+use Rattle.mk_driver.proofs.RoundLaws.{submitted}
 use Rattle.mk_driver.proofs.Callers.submit.Goals as goal
 
 pub invariant_of-self : goal.invariant_of-self

@@ -1,5 +1,5 @@
 use Rattle.std.proofs.Common.{arith}
-use Rattle.mk_client.proofs.DistinctKeys.{are_distinct-fetched}
+use Rattle.mk_client.specs.DistinctKeys.{are_distinct-fetched}
 use Rattle.mk_client.proofs.ReadOrder.{length-fetched}
 use Rattle.mk_client.proofs.attempt.ClientTxn.reads.Goals as goal
 

@@ -2,7 +2,7 @@ use Rattle.std.proofs.Common.{◌≡◌, Some, None, refl}
 use Rattle.std.specs.Prelude.{Option, IsSomeAnd, slice_set}
 use Rattle.mk_column.specs.declared.clients.Client.{Client}
 use Rattle.mk_column.specs.ClientsByCode.{number_of, same_number, kept_client, change_kept}
-use Rattle.mk_column.proofs.Numbers.{same_number-tells, same_number-itself}
+use Rattle.mk_column.proofs.Numbers.{same_number-tells}
 use Rattle.mk_column.proofs.TableLaws.{written-as, IsIndex-put}
 use Rattle.mk_column.proofs.clients.Clients.put.Goals as goal
 

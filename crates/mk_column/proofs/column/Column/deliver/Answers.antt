@@ -8,13 +8,14 @@ use Rattle.mk_column.specs.HeldByCode.{sent_of}
 use Rattle.mk_model.specs.Learnings.{txn_of}
 use Rattle.mk_column.specs.StepsByCode.{delivered, finished_by}
 use Rattle.mk_column.specs.ColumnByCode.{ColumnView, learning_of_kept, finish_kept, kept_of}
-use Rattle.mk_column.proofs.TakeLaws.{IsReaction, IsKept-delivered, delivered-state, unseen-state, unstamped-state, txn-found, txn-named, txn-acts, item-at}
+use Rattle.mk_lists.proofs.KeyedLists.{got-at}
+use Rattle.mk_column.proofs.TakeLaws.{IsReaction, IsKept-delivered, delivered-state, unseen-state, unstamped-state, txn-found, txn-named, txn-acts}
 use Rattle.mk_column.proofs.column.Column.deliver.Goals as goal
 
 pub returns-in_default-clause-ok : goal.returns-in_default-clause-ok
 returns-in_default-clause-ok c =
     let looked : option_copied c.get.result ≡ slice_get c.self.inside.views.items c.args.msg.now.replica =
-    item-at c.deref.result.now c.args.msg.now.replica c.get.result c.get.ensures.lookup
+    got-at c.deref.result.now c.args.msg.now.replica c.get.result c.get.ensures.lookup
     ∙ ap (λ (all : List ReplicaView). slice_get all c.args.msg.now.replica) c.deref.ensures.value in
     let none : slice_get c.args.self.now.setting.views c.args.msg.now.replica ≡ None =
     ap (λ (column : ColumnView). slice_get column.setting.views c.args.msg.now.replica) (sym c.self.view_is) ∙ sym looked ∙ ap option_copied c.in_default.is in
@@ -66,7 +67,7 @@ pub returns-clause-ok : goal.returns-clause-ok
 returns-clause-ok c =
     let kept = kept_of c.self.inside.parts in
     let looked : option_copied c.get.result ≡ slice_get c.self.inside.views.items c.args.msg.now.replica =
-    item-at c.deref.result.now c.args.msg.now.replica c.get.result c.get.ensures.lookup
+    got-at c.deref.result.now c.args.msg.now.replica c.get.result c.get.ensures.lookup
     ∙ ap (λ (all : List ReplicaView). slice_get all c.args.msg.now.replica) c.deref.ensures.value in
     let stamped : option_and_then (λ (b : BegunView). b.state.txn) (begun_of c.args.msg.now.id c.self.inside.parts.attempts) ≡ Some c.in-Some-txn.txn.now =
     sym c.txn.ensures ∙ ap option_copied c.in-Some-txn.is in

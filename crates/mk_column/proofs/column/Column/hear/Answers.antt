@@ -7,9 +7,8 @@ use Rattle.mk_column.specs.ClientsByCode.{client_state, client_states, kept_clie
 use Rattle.mk_model.specs.ColumnState.{is_client, client_of, change_client}
 use Rattle.mk_column.specs.StepsByCode.{heard_at}
 use Rattle.mk_column.specs.ColumnByCode.{ColumnView}
-use Rattle.mk_column.proofs.ColumnLaws.{client-found}
+use Rattle.mk_column.proofs.ColumnLaws.{client-number, client-found}
 use Rattle.mk_column.proofs.BeginLaws.{puts-turned}
-use Rattle.mk_column.proofs.StampedLaws.{client-number}
 use Rattle.mk_column.proofs.HearLaws.{IsKept-heard, clients-heard}
 use Rattle.mk_column.proofs.column.Column.hear.Goals as goal
 

@@ -1,4 +1,5 @@
 use Rattle.std.proofs.Common.{◌<◌, sym, ap, subst, ◌∙◌}
+use Rattle.mk_model.proofs.Parts.{takeover_answered-id}
 use Rattle.mk_quorum.specs.Sizes.{members}
 use Rattle.mk_column.specs.contracts.column.Column.{the_view}
 use Rattle.mk_model.specs.Answers.{takeover_answered}
@@ -6,7 +7,7 @@ use Rattle.mk_model.specs.ColumnState.{change_takeover}
 use Rattle.mk_column.specs.TakeoversByCode.{takeovers_of}
 use Rattle.mk_column.specs.ColumnByCode.{ColumnView}
 use Rattle.mk_column.proofs.KeptSteps.{IsKept-takeover_changed}
-use Rattle.mk_column.proofs.TakeoverLaws.{backup-there, takeovers-changed, backup-sized, answered-keeps}
+use Rattle.mk_column.proofs.TakeoverLaws.{backup-there, takeovers-changed, backup-sized}
 use Rattle.mk_column.proofs.column.Column.hear_at.Goals as goal
 
 pub answer-requires : goal.answer-requires
@@ -20,7 +21,7 @@ pub invariant_of-self : goal.invariant_of-self
 invariant_of-self c =
     IsKept-takeover_changed _ (record { id = c.args.msg.now.id; view = c.args.msg.now.view })
     (takeover_answered c.args.msg.now.replica c.args.msg.now.body) _ _ _
-    (answered-keeps c.args.msg.now.replica c.args.msg.now.body) c.answer.ensures c.self.invariant
+    (takeover_answered-id c.args.msg.now.replica c.args.msg.now.body) c.answer.ensures c.self.invariant
 
 pub returns : goal.returns
 returns c =

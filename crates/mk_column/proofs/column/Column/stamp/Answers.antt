@@ -16,7 +16,8 @@ use Rattle.mk_model.proofs.Frames.{enabled}
 use Rattle.mk_column.proofs.ReadingLaws.{next-above, fit-few, fit-distinct}
 use Rattle.mk_column.proofs.StepLaws.{step-view}
 use Rattle.mk_column.proofs.BeginLaws.{some-of-copied}
-use Rattle.mk_column.proofs.StampedLaws.{IsStamped, IsKept-stamped, item-acts, stamp-items, stamp-state, stamp-begun, stamp-reads, stamp-client, stamp-last, stamp-there, stamp-in_time, stamped-one, client-number}
+use Rattle.mk_column.proofs.ColumnLaws.{client-number}
+use Rattle.mk_column.proofs.StampedLaws.{IsStamped, IsKept-stamped, item-acts, stamp-items, stamp-state, stamp-begun, stamp-reads, stamp-client, stamp-last, stamp-there, stamp-in_time, stamped-one}
 use Rattle.mk_column.proofs.column.Column.stamp.Goals as goal
 
 pub unwrap-begun-requires : goal.unwrap-begun-requires

@@ -1,4 +1,4 @@
-use Rattle.std.proofs.Common.{◌≡◌, None, true, sym, subst, ◌∙◌}
+use Rattle.std.proofs.Common.{◌≡◌, true, sym, subst, ◌∙◌}
 use Rattle.mk_quorum.specs.Sizes.{members}
 use Rattle.mk_model.specs.Conditions.{is_idle}
 use Rattle.mk_column.proofs.KeptLaws.{wanted-none}

@@ -1,10 +1,12 @@
--- The clients of a column have rising numbers.
-use Rattle.std.proofs.Common.{◌<◌, ◌≤◌, ℕ, ◌+◌, Bool, true, false, List, [], ◌∷◌, arith, ◌==◌, if◌then◌else◌}
+-- The clients of a column have rising numbers, and keep them where more is asked of them.
+use Rattle.std.proofs.Common.{◌≡◌, refl, ap, map, ◌<◌, ◌≤◌, ℕ, ◌+◌, Bool, true, false, List, [], ◌∷◌, arith, ◌==◌, if◌then◌else◌}
 use Rattle.std.specs.Prelude.{None}
 use Rattle.mk_lists.specs.Among.{Each, Each-weaker}
 use Rattle.mk_script.specs.declared.lines.ClientLine.{ClientLine}
+use Rattle.mk_driver.specs.declared.Caller.{Caller}
+use Rattle.mk_driver.specs.declared.Submission.{Submission}
 use Rattle.mk_driver.specs.Keeping.{IsRising, numbers_of}
-use Rattle.mk_driver.specs.Driven.{callers_from}
+use Rattle.mk_driver.specs.Driven.{callers_from, asked_more}
 
 from : (column number : ℕ) (lines : List ClientLine) →
     Each (λ other. number ≤ other) (numbers_of (callers_from column number lines)) × IsRising (numbers_of (callers_from column number lines))
@@ -22,3 +24,8 @@ from column number (line ∷ lines) = by (line.column == column) (from column (n
 
 pub callers_rise : (column number : ℕ) (lines : List ClientLine) → IsRising (numbers_of (callers_from column number lines))
 callers_rise column number lines = let k = from column number lines in k.1
+
+-- the clients keep their numbers
+pub asked_numbers : (submissions : List Submission) (xs : List Caller) → numbers_of (map (asked_more submissions) xs) ≡ numbers_of xs
+asked_numbers submissions [] = refl
+asked_numbers submissions (x ∷ xs) = ap (λ ns. x.number ∷ ns) (asked_numbers submissions xs)

@@ -16,7 +16,7 @@ use Rattle.mk_client.specs.Wanted.{has_key, is_fetched, keys_after, wanted_keys}
 use Rattle.mk_client.specs.Computed.{Buffer, put, after_item, after_items, empty_buffer, writes_of}
 
 -- whether the key is one of these
-abbrev is_among : ℕ → List ℕ → Bool
+abbrev pub is_among : ℕ → List ℕ → Bool
 is_among key keys = list_any (λ other. eqb other key) keys
 
 fetched_is_new : (earlier : List Item) (item : Item) (key : ℕ) → has_key key earlier ≡ true → is_fetched earlier item ≡ true
@@ -33,7 +33,7 @@ fetched_is_new earlier item key h f = head (eqb (key_of item) key) refl
 has_key-later : (earlier : List Item) (item : Item) (key : ℕ) → has_key key earlier ≡ true → has_key key (earlier ++ item ∷ []) ≡ true
 has_key-later earlier item key h = rw (list_any-append, h)
 
-has_key-last : (earlier : List Item) (item : Item) → has_key (key_of item) (earlier ++ item ∷ []) ≡ true
+pub has_key-last : (earlier : List Item) (item : Item) → has_key (key_of item) (earlier ++ item ∷ []) ≡ true
 has_key-last earlier item =
     let same : eqb (key_of item) (key_of item) ≡ true = grind (arith, nat_tests) in rw (list_any-append, same) (grind arith)
 
@@ -61,7 +61,7 @@ are_distinct-keys_after earlier (item ∷ items) =
     head true new rest = rw new rest
     head false new rest = rest
 
-length-keys_after : (earlier items : List Item) → length (keys_after earlier items) ≤ length items
+pub length-keys_after : (earlier items : List Item) → length (keys_after earlier items) ≤ length items
 length-keys_after earlier [] = omega arith
 length-keys_after earlier (item ∷ items) = head (is_fetched earlier item) (length-keys_after (earlier ++ item ∷ []) items)
   where
@@ -87,7 +87,7 @@ are_distinct-fetched items n = are_distinct-take n (wanted_keys items) (are_dist
 pub length-wanted_keys : (items : List Item) → length (wanted_keys items) ≤ length items
 length-wanted_keys items = length-keys_after [] items
 
-is_among-put : (key : ℕ) (value : Value) (writes : List WriteItem) (other : ℕ) → eqb key other ≡ false
+pub is_among-put : (key : ℕ) (value : Value) (writes : List WriteItem) (other : ℕ) → eqb key other ≡ false
     → is_among other (write_keys (put key value writes)) ≡ is_among other (write_keys writes)
 is_among-put key value [] other e = rw e
 is_among-put key value (item ∷ writes) other e = head (eqb item.key key) (is_among-put key value writes other e)
@@ -97,7 +97,7 @@ is_among-put key value (item ∷ writes) other e = head (eqb item.key key) (is_a
     head true rest = refl
     head false rest = ap (λ b. eqb item.key other || b) rest
 
-are_distinct-put : (key : ℕ) (value : Value) (writes : List WriteItem) → are_distinct (write_keys writes) ≡ true
+pub are_distinct-put : (key : ℕ) (value : Value) (writes : List WriteItem) → are_distinct (write_keys writes) ≡ true
     → are_distinct (write_keys (put key value writes)) ≡ true
 are_distinct-put key value [] h = refl
 are_distinct-put key value (item ∷ writes) h = head (eqb item.key key) refl (are_distinct-put key value writes)
@@ -110,7 +110,7 @@ are_distinct-put key value (item ∷ writes) h = head (eqb item.key key) refl (a
         let apart : eqb key item.key ≡ false = grind (arith, nat_tests) in
         grind (arith, is_among-put key value writes item.key apart, rest)
 
-length-put : (key : ℕ) (value : Value) (writes : List WriteItem) → length (put key value writes) ≤ length writes + 1
+pub length-put : (key : ℕ) (value : Value) (writes : List WriteItem) → length (put key value writes) ≤ length writes + 1
 length-put key value [] = omega arith
 length-put key value (item ∷ writes) = head (eqb item.key key) (length-put key value writes)
   where
