@@ -1,0 +1,2 @@
+-- Runs that are kept.
+pub mod Heads
