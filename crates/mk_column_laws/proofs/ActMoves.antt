@@ -1,5 +1,5 @@
 -- What each step does to key acts.
-use Rattle.std.proofs.Common.{◌≡◌, ◌∙◌, ℕ, true, refl, arith, sym, ap, subst, [], ◌∷◌, ◌++◌, Option, Some, None, ◌&&◌, ◌==◌}
+use Rattle.std.proofs.Common.{◌≡◌, ◌∙◌, ℕ, true, refl, arith, sym, ap, subst, List, [], ◌∷◌, ◌++◌, Option, Some, None, ◌&&◌, ◌==◌}
 use Rattle.std.specs.Prelude.{option_map, slice_get}
 use Rattle.std.proofs.lemmas.Bool.Decides.{nat_tests}
 use Rattle.std.proofs.lemmas.Bool.{and_parts}

@@ -14,7 +14,7 @@ use Rattle.mk_words.specs.declared.Step.TheVariants.{Begin, Unread}
 use Rattle.mk_model.specs.ColumnState.{Setting, ColumnState, AttemptState, ClientState, client_of, numbers_from}
 use Rattle.mk_model.specs.Conditions.{blocked, conditions, is_idle, heard_by, may_begin, serves_from, has_seq_left}
 use Rattle.mk_driver.specs.Stages.{reader_for, from_home}
-use Rattle.mk_driver_laws.proofs.Lookups.{any-none}
+use Rattle.mk_lists.proofs.Tests.{list_any-none}
 use Rattle.mk_driver_laws.proofs.Conditions.{none_fails}
 use Rattle.mk_driver_laws.proofs.Reading.{NoneReads}
 
@@ -24,7 +24,7 @@ heard_is c n cl e = grind (arith, e)
 begin_allowed : (c : ColumnState) (n : ℕ) (cl : ClientState) → client_of c n ≡ Some cl → NoneReads c → may_begin c n ≡ true
 begin_allowed c n cl e none =
     and_from (is_some (client_of c n)) _ (ap is_some e)
-    (not_from_false _ (any-none (λ a. a.reading && a.id.client == n) c.attempts
+    (not_from_false _ (list_any-none (λ a. a.reading && a.id.client == n) c.attempts
     (Each-weaker (λ (a : AttemptState). a.reading ≡ true → ⊥) (λ (a : AttemptState). (a.reading && a.id.client == n) ≡ false) (λ a h. by a.reading (a.id.client == n) h) c.attempts none)))
   where
     by : (r b : Bool) → (r ≡ true → ⊥) → (r && b) ≡ false

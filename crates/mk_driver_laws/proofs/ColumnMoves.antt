@@ -5,7 +5,7 @@ use Rattle.std.specs.List.{list_any}
 use Rattle.std.proofs.lemmas.Option.{same_Some}
 use Rattle.std.proofs.lemmas.List.Folds.{list_any-append}
 use Rattle.mk_lists.specs.Among.{Each, Each-append, Each-weaker}
-use Rattle.mk_lists.proofs.Tests.{list_any-append_left}
+use Rattle.mk_lists.proofs.Tests.{list_any-append_left, list_any-none}
 use Rattle.mk_txn.specs.declared.TxnId.{TxnId}
 use Rattle.mk_txn.specs.Transactions.{Transaction, same_id}
 use Rattle.mk_txn.proofs.IdOrder.{same_id-tells}
@@ -19,7 +19,7 @@ use Rattle.mk_words.specs.declared.Step.TheVariants.{Stop, Validate}
 use Rattle.mk_model.specs.ColumnState.{ColumnState, AttemptState, TakeoverOf, ClientState, Work, attempt_of, client_of, takeover_of}
 use Rattle.mk_model.specs.ColumnState.Work.{Idle, Fetching, Validating, Finishing}
 use Rattle.mk_model.specs.Conditions.{is_validate_of, is_stamped, on_attempt}
-use Rattle.mk_driver_laws.proofs.Lookups.{passes-from_some, any-neither, any-none}
+use Rattle.mk_driver_laws.proofs.Lookups.{passes-from_some, any-neither}
 
 -- a Validate of the attempt was sent
 abbrev pub WasSent : List Msg → TxnId → Type 0
@@ -103,7 +103,7 @@ module _ (f : ℕ) (c new : ColumnState) (step : Step) (k : ColumnFits f c) (m :
   stays_unsent id v e =
       subst (λ (l : List Msg). list_any (is_validate_of id) l ≡ false) (sym m.link)
       (any-neither (is_validate_of id) c.link m.messages e
-      (any-none (is_validate_of id) m.messages (Each-weaker (MessageFits c step) (λ (x : Msg). is_validate_of id x ≡ false) (λ x h. h.quiet id v) m.messages m.fit)))
+      (list_any-none (is_validate_of id) m.messages (Each-weaker (MessageFits c step) (λ (x : Msg). is_validate_of id x ≡ false) (λ x h. h.quiet id v) m.messages m.fit)))
 
   -- a stamped attempt stays so
   pub stays_stamped : (id : TxnId) → on_attempt c id is_stamped ≡ true → on_attempt new id is_stamped ≡ true

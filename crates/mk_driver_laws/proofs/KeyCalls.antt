@@ -1,5 +1,6 @@
 -- The key call that is named is the wanted one, so its step is enabled; and where nothing is named, none is under way.
 use Rattle.std.proofs.Common.{◌≡◌, ◌∙◌, ℕ, Bool, true, false, refl, sym, ap, arith, List, Option, Some, None, ◌&&◌}
+use Rattle.std.proofs.lemmas.Bool.{and_from}
 use Rattle.std.proofs.lemmas.Bool.Decides.{nat_tests}
 use Rattle.mk_txn.specs.declared.Stamp.{Stamp}
 use Rattle.mk_txn.specs.declared.Value.{Value}
@@ -30,21 +31,16 @@ use Rattle.mk_driver_laws.proofs.Standing.{come_fits}
 stamp-itself : (s : Stamp) → same_stamp s s ≡ true
 stamp-itself s = grind (arith, nat_tests)
 
-both-itself : (a b : Bool) → a ≡ true → b ≡ true → (a && b) ≡ true
-both-itself true true p q = refl
-both-itself true false p q = q
-both-itself false b p q = p
-
 value-itself : (v : Value) → same_value v v ≡ true
 value-itself (Number n) = grind (arith, nat_tests)
 value-itself Absent = refl
 
 act-itself : (act : Act) → same_act act act ≡ true
 act-itself Get = refl
-act-itself (CheckRead ts version) = both-itself (same_stamp ts ts) (same_stamp version version) (stamp-itself ts) (stamp-itself version)
+act-itself (CheckRead ts version) = and_from (same_stamp ts ts) (same_stamp version version) (stamp-itself ts) (stamp-itself version)
 act-itself (CheckWrite ts) = stamp-itself ts
 act-itself (CommitRead ts) = stamp-itself ts
-act-itself (CommitWrite ts value) = both-itself (same_stamp ts ts) (same_value value value) (stamp-itself ts) (value-itself value)
+act-itself (CommitWrite ts value) = and_from (same_stamp ts ts) (same_value value value) (stamp-itself ts) (value-itself value)
 act-itself (ReleaseRead ts) = stamp-itself ts
 act-itself (ReleaseWrite ts) = stamp-itself ts
 

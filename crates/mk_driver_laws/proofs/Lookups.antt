@@ -24,10 +24,6 @@ any-right p xs ys e = let h = list_any-append p xs ys in by (list_any p xs) (lis
 pub any-neither : {X : Type 0} (p : X → Bool) (xs ys : List X) → list_any p xs ≡ false → list_any p ys ≡ false → list_any p (xs ++ ys) ≡ false
 any-neither p xs ys e f = let h = list_any-append p xs ys in grind (arith, e, f, h)
 
-pub any-none : {X : Type 0} (p : X → Bool) (xs : List X) → Each (λ x. p x ≡ false) xs → list_any p xs ≡ false
-any-none p [] h = refl
-any-none p (x ∷ xs) h = let here = h.0 in let rest = any-none p xs h.1 in grind (arith, here, rest)
-
 -- what is found in a changed list comes of what was found
 pub changed_from : {X : Type 0} (p q : X → Bool) (f : X → X) (xs : List X) (y : X) → ((x : X) → q (f x) ≡ q x) → find q (change p f xs) ≡ Some y →
     (x : X) × (find q xs ≡ Some x) × ((y ≡ x) ⊎ (y ≡ f x))

@@ -9,7 +9,8 @@ use Rattle.mk_merge.specs.declared.Promise.{Promise}
 use Rattle.mk_epoch.specs.declared.replica.Replica.{Replica}
 use Rattle.mk_epoch.specs.Changes.{ChangeView, change_for, asked_for, with_asked, grown_to, promised_to, made_as, adopted_by}
 use Rattle.mk_epoch.specs.Standing.{ReplicasView, IsKept, word_at, waits_for, now_serving}
-use Rattle.mk_epoch.proofs.RowLaws.{same_or_not, change_for-set_same, change_for-set_other, change_for-more, grown-length, length-set_at, length-changed, length-append, reached-risen, reached-one, reached-changed, reached-few}
+use Rattle.mk_lists.proofs.Changes.{length-change}
+use Rattle.mk_epoch.proofs.RowLaws.{same_or_not, change_for-set_same, change_for-set_other, change_for-more, grown-length, length-set_at, length-append, reached-risen, reached-one, reached-changed, reached-few}
 use Rattle.mk_epoch.proofs.AnswerLaws.{word_of}
 
 le_tells : (a b : ℕ) → nat_le a b ≡ true → a ≤ b
@@ -102,7 +103,7 @@ module _ {B : Type 0} where
     pub kept_served : (epoch : ℕ) → IsKept (record old { replicas = change (waits_for epoch) now_serving old.replicas })
     kept_served epoch = record {
       small = k.small;
-      members = length-changed (waits_for epoch) now_serving old.replicas ∙ k.members;
+      members = length-change (waits_for epoch) now_serving old.replicas ∙ k.members;
       promised = λ e. subst (λ n. length (change_for e old.changes).promises ≤ n) (sym (reached-changed (λ (x : Replica B). nat_le e x.word) (waits_for epoch) now_serving (λ x. refl) old.replicas)) (k.promised e);
       adopters = k.adopters;
     }

@@ -5,6 +5,7 @@ use Rattle.std.proofs.Common.{◌≡◌, ◌≤◌, ◌<◌, ℕ, zero, suc, ◌
 use Rattle.std.specs.Prelude.{◌⊎◌, slice_get, slice_set, slice_index_or, take, drop, filter, find, replicate, unwrap_or, is_some, ◌==◌, ◌||◌, if◌then◌else◌}
 use Rattle.std.specs.List.{list_any}
 use Rattle.mk_lists.specs.Changed.{change}
+use Rattle.mk_lists.proofs.Places.{slice_get-set_same, slice_get-set_other}
 use Rattle.mk_epoch.specs.Changes.{ChangeView, no_change, change_for, grown_to}
 
 pub same_or_not : (a b : ℕ) → (a ≡ b) ⊎ (a ≡ b → ⊥)
@@ -17,26 +18,10 @@ pub eqb-apart : (a b : ℕ) → (a ≡ b → ⊥) → (a == b) ≡ false
 eqb-apart a b ne = grind (arith, nat_tests)
 
 module _ {X : Type 0} where
-  pub get-set_same : (xs : List X) (i : ℕ) (y : X) → i < length xs → slice_get (slice_set xs i y) i ≡ Some y
-  get-set_same [] i y h = absurd (omega arith)
-  get-set_same (z ∷ xs) zero y h = refl
-  get-set_same (z ∷ xs) (suc i) y h = get-set_same xs i y (omega arith)
-
-  pub get-set_other : (xs : List X) (i j : ℕ) (y : X) → (j ≡ i → ⊥) → slice_get (slice_set xs i y) j ≡ slice_get xs j
-  get-set_other [] i j y ne = refl
-  get-set_other (z ∷ xs) zero zero y ne = absurd (ne refl)
-  get-set_other (z ∷ xs) zero (suc j) y ne = refl
-  get-set_other (z ∷ xs) (suc i) zero y ne = refl
-  get-set_other (z ∷ xs) (suc i) (suc j) y ne = get-set_other xs i j y (λ e. ne (ap suc e))
-
   pub length-set_at : (xs : List X) (i : ℕ) (y : X) → length (slice_set xs i y) ≡ length xs
   length-set_at [] i y = refl
   length-set_at (x ∷ xs) zero y = refl
   length-set_at (x ∷ xs) (suc i) y = grind (arith, length-set_at xs i y)
-
-  pub length-changed : (p : X → Bool) (f : X → X) (xs : List X) → length (change p f xs) ≡ length xs
-  length-changed p f [] = refl
-  length-changed p f (x ∷ xs) = grind (arith, length-changed p f xs)
 
   pub get-below : (xs : List X) (i : ℕ) (x : X) → slice_get xs i ≡ Some x → i < length xs
   get-below [] i x e = absurd (cc e)
@@ -215,10 +200,10 @@ module _ {B : Type 0} where
   row_is (c ∷ changes) (suc epoch) h = row_is changes epoch (omega arith)
 
   pub change_for-set_same : (changes : List (ChangeView B)) (epoch : ℕ) (c : ChangeView B) → epoch < length changes → change_for epoch (slice_set changes epoch c) ≡ c
-  change_for-set_same changes epoch c h = ap (λ o. unwrap_or o no_change) (get-set_same changes epoch c h)
+  change_for-set_same changes epoch c h = ap (λ o. unwrap_or o no_change) (slice_get-set_same changes epoch c h)
 
   pub change_for-set_other : (changes : List (ChangeView B)) (epoch e : ℕ) (c : ChangeView B) → (e ≡ epoch → ⊥) → change_for e (slice_set changes epoch c) ≡ change_for e changes
-  change_for-set_other changes epoch e c ne = ap (λ o. unwrap_or o no_change) (get-set_other changes epoch e c ne)
+  change_for-set_other changes epoch e c ne = ap (λ o. unwrap_or o no_change) (slice_get-set_other changes epoch e c ne)
 
   pub change_for-more : (changes : List (ChangeView B)) (n e : ℕ) → change_for e (changes ++ replicate n no_change) ≡ change_for e changes
   change_for-more changes n e = or-more changes n e no_change

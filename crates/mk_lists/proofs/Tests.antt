@@ -12,6 +12,10 @@ same-from_tests false true to back = absurd (cc (back refl))
 same-from_tests false false to back = refl
 
 module _ {X : Type 0} (p : X → Bool) where
+  pub list_any-none : (xs : List X) → Each (λ x. p x ≡ false) xs → list_any p xs ≡ false
+  list_any-none [] h = refl
+  list_any-none (x ∷ xs) h = ap (λ b. b || list_any p xs) h.0 ∙ list_any-none xs h.1
+
   pub list_any-from_Among : (xs : List X) (x : X) → Among x xs → p x ≡ true → list_any p xs ≡ true
   list_any-from_Among [] x a t = absurd a
   list_any-from_Among (y ∷ xs) x (inl e) t = grind (arith, t, e)

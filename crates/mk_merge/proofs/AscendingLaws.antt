@@ -93,10 +93,6 @@ ascends-replaced stamp_of y (suc i) (suc j) (x ∷ xs) le low high h = (
 
 -- ---- what is found
 
-pub none-pass : {X : Type 0} (p : X → Bool) (xs : List X) → Each (λ x. p x ≡ false) xs → list_any p xs ≡ false
-none-pass p [] h = refl
-none-pass p (x ∷ xs) h = ap (λ b. b || list_any p xs) h.0 ∙ none-pass p xs h.1
-
 or_turned : (a b : Bool) → (a || b) ≡ (b || a)
 or_turned true true = refl
 or_turned true false = refl

@@ -44,15 +44,6 @@ is_of-hit : {B : Type 0} → (leader : ℕ) (leads : Bool) (p : Promise B) → (
 is_of-hit leader true p e = e
 is_of-hit leader false p e = ap not e
 
-is_of-miss : {B : Type 0} → (leader : ℕ) (leads : Bool) (p : Promise B) → ((p.replica == leader) ≡ leads → ⊥) → is_of leader leads p ≡ false
-is_of-miss leader leads p apart = by_lead leads (p.replica == leader) apart
-  where
-    by_lead : (l b : Bool) → (b ≡ l → ⊥) → (if l then b else not b) ≡ false
-    by_lead true true n = absurd (n refl)
-    by_lead true false n = refl
-    by_lead false true n = refl
-    by_lead false false n = absurd (n refl)
-
 pub some-add : {B : Type 0} → (leader : ℕ) (leads : Bool) (count : ℕ) (all : List (Promise B)) (i : ℕ) (p : Promise B) (begun old new : List (Promise B)) (room : ℕ) → i < length all → p ≡ get_or all i p → (p.replica == leader) ≡ leads → 0 < room
     → new ≡ old ++ p ∷ [] → ComesToSome leader leads count all i begun old room → ComesToSome leader leads count all (i + 1) begun new (room - 1)
 some-add leader leads count all i p begun old new zero within is other some pushed h = absurd (omega (arith, some))

@@ -40,19 +40,6 @@ written-ends stamp all i old now past h =
     let none : ComeToWritten stamp all [] old now = subst (λ left. ComeToWritten stamp all left old now) (drop_all i all past) h in
     record { all = none.long; latest = none.latest; rts = none.rts }
 
--- a write whose key is none of these
-written-past : (stamp : Stamp) (all left : List WriteItem) (item : WriteItem) (old now : List LeftState) → length now ≤ item.key
-    → ComeToWritten stamp all (item ∷ left) old now → ComeToWritten stamp all left old now
-written-past stamp all left item old now past h = record {
-  long = h.long;
-  latest = λ key d within.
-      let long = h.long in
-      let miss : (item.key == key) ≡ false = grind (arith, nat_tests, within, past, long) in
-      let at = (get_or now key d).latest in
-      ap (λ b. after_writes key stamp (if b then (if is_before stamp at.version then at else record { version = stamp; value = item.value }) else at) left) (sym miss) ∙ h.latest key d within;
-  rts = h.rts;
-}
-
 -- a write at its key
 written-here : (stamp : Stamp) (all left : List WriteItem) (item : WriteItem) (old now : List LeftState) (x : LeftState) → item.key < length now → x ≡ get_or now item.key x
     → ComeToWritten stamp all (item ∷ left) old now → ComeToWritten stamp all left old (set now item.key (with_write stamp item.value x))
@@ -103,17 +90,6 @@ read-ends stamp all i old now past h =
     let none : ComeToRead stamp all [] old now = subst (λ left. ComeToRead stamp all left old now) (drop_all i all past) h in
     record { all = none.long; latest = none.latest; rts = none.rts }
 
-read-past : (stamp : Stamp) (all left : List ReadItem) (item : ReadItem) (old now : List LeftState) → length now ≤ item.key
-    → ComeToRead stamp all (item ∷ left) old now → ComeToRead stamp all left old now
-read-past stamp all left item old now past h = record {
-  long = h.long;
-  latest = h.latest;
-  rts = λ key d within.
-      let long = h.long in
-      let miss : (item.key == key) ≡ false = grind (arith, nat_tests, within, past, long) in
-      ap (λ b. after_reads key stamp (if b then later_stamp (get_or now key d).rts stamp else (get_or now key d).rts) left) (sym miss) ∙ h.rts key d within;
-}
-
 -- a read at its key
 read-here : (stamp : Stamp) (all left : List ReadItem) (item : ReadItem) (old now : List LeftState) (x : LeftState) → item.key < length now → x ≡ get_or now item.key x
     → ComeToRead stamp all (item ∷ left) old now → ComeToRead stamp all left old (set now item.key (with_read stamp x))
@@ -155,23 +131,5 @@ read-next stamp all i item old now x new within is inside at made h =
 pub record ComeToLeft (all left : List Transaction) (keys : ℕ) (lefts : List LeftState) : Type 0 where
   pub long : length lefts ≡ keys
   pub each : (key : ℕ) (d : LeftState) → key < keys → left_by key (get_or lefts key d) left ≡ left_by key nothing_left all
-
-pub left-ends : (all : List Transaction) (keys : ℕ) (lefts : List LeftState) → ComeToLeft all [] keys lefts → AreLeft all keys lefts
-left-ends all keys lefts h = record { all = h.long; each = h.each }
-
--- one more commit, whose writes and then reads came to every key
-pub left-next : (all left : List Transaction) (txn : Transaction) (keys : ℕ) (old written new : List LeftState) → AreWritten txn.stamp txn.writes old written → AreRead txn.stamp txn.reads written new
-    → ComeToLeft all (txn ∷ left) keys old → ComeToLeft all left keys new
-left-next all left txn keys old written new writes reads h = record {
-  long = reads.all ∙ (writes.all ∙ h.long);
-  each = λ key d within.
-      let in_old : key < length old = subst (λ n. key < n) (sym h.long) within in
-      let in_written : key < length written = subst (λ n. key < n) (sym (writes.all ∙ h.long)) within in
-      let latest : (get_or new key d).latest ≡ after_writes key txn.stamp (get_or old key d).latest txn.writes = reads.latest key d in_written ∙ writes.latest key d in_old in
-      let rts : (get_or new key d).rts ≡ after_reads key txn.stamp (get_or old key d).rts txn.reads = reads.rts key d in_written ∙ ap (λ r. after_reads key txn.stamp r txn.reads) (writes.rts key d in_old) in
-      ap (λ (l : LeftState). left_by key l left) (left-is (get_or new key d) (after_commit key txn (get_or old key d)) latest rts) ∙ h.each key d within;
-} where
-  left-is : (a b : LeftState) → a.latest ≡ b.latest → a.rts ≡ b.rts → a ≡ b
-  left-is a b e f = λ i. record { latest = e i; rts = f i }
 
 -- ---- a list of fates

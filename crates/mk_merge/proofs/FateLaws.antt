@@ -17,36 +17,11 @@ use Rattle.mk_lists.proofs.Places.{drop_read}
 abbrev pub nows : List (Bor Transaction) → List Transaction
 nows txns = map (λ t. t.now) txns
 
-nows-push : (txns : List (Bor Transaction)) (t : Bor Transaction) → nows (txns ++ t ∷ []) ≡ nows txns ++ t.now ∷ []
-nows-push [] t = refl
-nows-push (x ∷ txns) t = ap (λ ts. x.now ∷ ts) (nows-push txns t)
-
 -- ---- those that pass a test
 
 -- with those that are left it comes to all that pass
 abbrev pub ComesToPassing : (Transaction → Bool) → List (Bor Transaction) → ℕ → List Transaction → Type 0
 ComesToPassing p all i found = found ++ filter p (nows (drop i all)) ≡ filter p (nows all)
-
-pub passing-add : (p : Transaction → Bool) (all : List (Bor Transaction)) (i : ℕ) (t : Bor Transaction) (old new : List Transaction) → i < length all → t ≡ get_or all i t → p t.now ≡ true → new ≡ old ++ t.now ∷ []
-    → ComesToPassing p all i old → ComesToPassing p all (i + 1) new
-passing-add p all i t old new within is pass pushed h =
-    let more = filter p (nows (drop (i + 1) all)) in
-    ap (λ found. found ++ more) pushed
-    ∙ append_assoc old (t.now ∷ []) more
-    ∙ ap (λ b. old ++ (if b then t.now ∷ more else more)) (sym pass)
-    ∙ ap (λ left. old ++ filter p (nows left)) (sym (drop_read all i t within is))
-    ∙ h
-
-pub passing-skip : (p : Transaction → Bool) (all : List (Bor Transaction)) (i : ℕ) (t : Bor Transaction) (found : List Transaction) → i < length all → t ≡ get_or all i t → p t.now ≡ false
-    → ComesToPassing p all i found → ComesToPassing p all (i + 1) found
-passing-skip p all i t found within is miss h =
-    let more = filter p (nows (drop (i + 1) all)) in
-    ap (λ b. found ++ (if b then t.now ∷ more else more)) (sym miss)
-    ∙ ap (λ left. found ++ filter p (nows left)) (sym (drop_read all i t within is))
-    ∙ h
-
-pub passing-ends : (p : Transaction → Bool) (all : List (Bor Transaction)) (i : ℕ) (found : List Transaction) → length all ≤ i → ComesToPassing p all i found → found ≡ filter p (nows all)
-passing-ends p all i found past h = sym (append-nil found) ∙ ap (λ left. found ++ filter p (nows left)) (sym (drop_all i all past)) ∙ h
 
 -- the same where those that were found are borrowed
 abbrev pub ComesToFiltered : (Transaction → Bool) → List (Bor Transaction) → ℕ → List (Bor Transaction) → Type 0

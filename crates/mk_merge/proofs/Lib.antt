@@ -6,7 +6,6 @@ pub mod ChoosingLaws
 pub mod ReportLaws
 pub mod OrderLaws
 pub mod FateLaws
-pub mod StampLaws
 pub mod JoiningLaws
 pub mod StandLaws
 pub mod AscendingLaws

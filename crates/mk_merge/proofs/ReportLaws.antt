@@ -15,9 +15,6 @@ use Rattle.mk_words.specs.Merging.{reported, reports_from, first_last}
 reports-more : (ps : List PromiseState) (id : TxnId) (r end : ℕ) → r < end → reports_from ps id r (end - r) ≡ reported ps id r ∷ reports_from ps id (r + 1) (end - (r + 1))
 reports-more ps id r end within = let more : end - r ≡ suc (end - (r + 1)) = omega (arith, within) in ap (reports_from ps id r) more
 
-reports-none : (ps : List PromiseState) (id : TxnId) (r end : ℕ) → end ≤ r → reports_from ps id r (end - r) ≡ []
-reports-none ps id r end past = let none : end - r ≡ 0 = omega (arith, past) in ap (reports_from ps id r) none
-
 -- ---- the first final outcome
 
 -- with the replicas that are left it comes to the first of all

@@ -1,5 +1,6 @@
 -- What stands at the place where ascending stamps, or spans, part settles what is found among all.
 use Rattle.std.proofs.Common.{◌≡◌, ℕ, zero, suc, ◌+◌, ◌-◌, ◌<◌, ◌≤◌, Bool, true, false, refl, sym, ap, ◌∙◌, subst, arith, List, [], ◌∷◌, ◌++◌, length, get_or, take, drop, ◌||◌, ◌&&◌}
+use Rattle.std.proofs.lemmas.Bool.{and_from}
 use Rattle.std.proofs.lemmas.Bool.Decides.{nat_tests}
 use Rattle.std.proofs.lemmas.List.{take-append-drop, take_more, drop_all}
 use Rattle.std.proofs.lemmas.List.Folds.{list_any-append, list_any_at}
@@ -13,8 +14,9 @@ use Rattle.mk_txn.proofs.StampOrder.{is_before-not_back, is_before-through, is_b
 use Rattle.mk_merge.specs.declared.spanning.Span.{Span}
 use Rattle.mk_merge.specs.Ascending.{AscendsBy, IsAscending, has_between}
 use Rattle.mk_merge.specs.Spanning.{spans_over, is_spanned, AreSpans}
-use Rattle.mk_merge.proofs.AscendingLaws.{Each-front, Each-back, ascends-dropped, ascends-replaced, none-pass, any-replaced}
+use Rattle.mk_merge.proofs.AscendingLaws.{Each-front, Each-back, ascends-dropped, ascends-replaced, any-replaced}
 use Rattle.mk_lists.proofs.Places.{drop_read}
+use Rattle.mk_lists.proofs.Tests.{list_any-none}
 
 -- ---- stamps
 
@@ -37,11 +39,11 @@ first-settles low high x rest h e = ap (λ b. b || list_any (λ s. is_between lo
 
     by_first : (b : Bool) → is_before x high ≡ b → (is_before x high || list_any (λ s. is_between low s high) rest) ≡ is_before x high
     by_first true f = ap (λ b. b || list_any (λ s. is_between low s high) rest) f ∙ sym f
-    by_first false f = ap (λ b. is_before x high || b) (none-pass (λ s. is_between low s high) rest (Each-weaker (λ s. is_before s x ≡ false) (λ s. is_between low s high ≡ false) (λ s k. not_below low high x s f k) rest h.0)) ∙ or_none (is_before x high)
+    by_first false f = ap (λ b. is_before x high || b) (list_any-none (λ s. is_between low s high) rest (Each-weaker (λ s. is_before s x ≡ false) (λ s. is_between low s high ≡ false) (λ s k. not_below low high x s f k) rest h.0)) ∙ or_none (is_before x high)
 
 -- only those from the place on count
 found-behind : {X : Type 0} (p : X → Bool) (xs : List X) (i : ℕ) → Each (λ x. p x ≡ false) (take i xs) → list_any p xs ≡ list_any p (drop i xs)
-found-behind p xs i h = ap (list_any p) (sym (take-append-drop i xs)) ∙ list_any-append p (take i xs) (drop i xs) ∙ ap (λ b. b || list_any p (drop i xs)) (none-pass p (take i xs) h)
+found-behind p xs i h = ap (list_any p) (sym (take-append-drop i xs)) ∙ list_any-append p (take i xs) (drop i xs) ∙ ap (λ b. b || list_any p (drop i xs)) (list_any-none p (take i xs) h)
 
 upto-fails : (low high : Stamp) (xs : List Stamp) (i : ℕ) → IsPartitionPoint (λ s. is_before low s ≡ false) (λ s. is_before low s ≡ true) xs i → Each (λ s. is_between low s high ≡ false) (take i xs)
 upto-fails low high xs i split = Each-weaker (λ s. is_before low s ≡ false) (λ s. is_between low s high ≡ false) (λ s e. not_above low high s e) (take i xs) (Each-front (λ s. is_before low s ≡ false) xs i split.0)
@@ -102,13 +104,13 @@ last-settles s xs last h e =
 
     by_last : (b : Bool) → is_before s last.reader ≡ b → (is_spanned s xs || (b || false)) ≡ b
     by_last true f = or_true (is_spanned s xs)
-    by_last false f = ap (λ b. b || (false || false)) (none-pass (spans_over s) xs (Each-weaker (λ (span : Span). is_before last.reader span.reader ≡ false) (λ span. spans_over s span ≡ false) (λ span k. reaches_less s span last f k) xs (last-highest xs last h)))
+    by_last false f = ap (λ b. b || (false || false)) (list_any-none (spans_over s) xs (Each-weaker (λ (span : Span). is_before last.reader span.reader ≡ false) (λ span. spans_over s span ≡ false) (λ span k. reaches_less s span last f k) xs (last-highest xs last h)))
 
 -- only those in front of the place count
 found-in_front : (s : Stamp) (xs : List Span) (i : ℕ) → AllWithin (λ span. is_before span.version s ≡ false) xs i (length xs) → is_spanned s xs ≡ is_spanned s (take i xs)
 found-in_front s xs i h =
     ap (is_spanned s) (sym (take-append-drop i xs)) ∙ list_any-append (spans_over s) (take i xs) (drop i xs)
-    ∙ ap (λ b. is_spanned s (take i xs) || b) (none-pass (spans_over s) (drop i xs) (Each-weaker (λ span. is_before span.version s ≡ false) (λ span. spans_over s span ≡ false) (λ span e. starts_late s span e) (drop i xs) (Each-back (λ span. is_before span.version s ≡ false) xs i h)))
+    ∙ ap (λ b. is_spanned s (take i xs) || b) (list_any-none (spans_over s) (drop i xs) (Each-weaker (λ span. is_before span.version s ≡ false) (λ span. spans_over s span ≡ false) (λ span e. starts_late s span e) (drop i xs) (Each-back (λ span. is_before span.version s ≡ false) xs i h)))
     ∙ or_none (is_spanned s (take i xs))
   where
     or_none : (b : Bool) → (b || false) ≡ b
@@ -140,10 +142,6 @@ and_right : (a b : Bool) → (a && b) ≡ true → b ≡ true
 and_right true b e = e
 and_right false b e = absurd (cc e)
 
-and_both : (a b : Bool) → a ≡ true → b ≡ true → (a && b) ≡ true
-and_both true b e f = f
-and_both false b e f = e
-
 starts : (s : Stamp) (span : Span) → spans_over s span ≡ true → is_before span.version s ≡ true
 starts s span e = and_left (is_before span.version s) (is_before s span.reader) e
 
@@ -151,10 +149,10 @@ ends : (s : Stamp) (span : Span) → spans_over s span ≡ true → is_before s 
 ends s span e = and_right (is_before span.version s) (is_before s span.reader) e
 
 inner : (s : Stamp) (span other : Span) → is_before span.version other.version ≡ false → is_before other.reader span.reader ≡ false → spans_over s span ≡ true → spans_over s other ≡ true
-inner s span other low high e = and_both (is_before other.version s) (is_before s other.reader) (is_before-down other.version span.version s low (starts s span e)) (is_before-up s span.reader other.reader (ends s span e) high)
+inner s span other low high e = and_from (is_before other.version s) (is_before s other.reader) (is_before-down other.version span.version s low (starts s span e)) (is_before-up s span.reader other.reader (ends s span e) high)
 
 outer : (s : Stamp) (span other : Span) → is_before other.version span.version ≡ true → is_before span.reader other.reader ≡ true → spans_over s span ≡ true → spans_over s other ≡ true
-outer s span other low high e = and_both (is_before other.version s) (is_before s other.reader) (is_before-through other.version span.version s low (starts s span e)) (is_before-through s span.reader other.reader (ends s span e) high)
+outer s span other low high e = and_from (is_before other.version s) (is_before s other.reader) (is_before-through other.version span.version s low (starts s span e)) (is_before-through s span.reader other.reader (ends s span e) high)
 
 module _ (y : Span) (xs : List Span) (i j : ℕ) (start : IsPartitionPoint (λ (span : Span). is_before span.version y.version ≡ true) (λ span. is_before span.version y.version ≡ false) xs i) (end : IsPartitionPoint (λ (span : Span). is_before y.reader span.reader ≡ false) (λ span. is_before y.reader span.reader ≡ true) xs j) where
   pub spanned-replaced : i ≤ j → (s : Stamp) → is_spanned s (take i xs ++ y ∷ drop j xs) ≡ (is_spanned s xs || spans_over s y)

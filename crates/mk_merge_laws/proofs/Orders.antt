@@ -8,6 +8,7 @@ use Rattle.mk_txn.specs.Stamps.{is_before}
 use Rattle.mk_txn.specs.Transactions.{Transaction, same_id, id_before}
 use Rattle.mk_txn.proofs.IdOrder.{id_before-itself, id_before-through, id-from_neither, same_id-tells, same_id-itself}
 use Rattle.mk_words.specs.declared.Fated.{Fated}
+use Rattle.mk_words.proofs.StampOrdering.{placed-from, placed-there}
 use Rattle.mk_words.specs.Bases.{IsInIdOrder, fate_in, fated, placed_by_id, in_id_order, placed_by_stamp, in_stamp_order}
 
 -- each number is before all that follow it
@@ -101,37 +102,14 @@ ordered_there id t (txn ∷ txns) (inl same) e = placed_there id txn (in_id_orde
 ordered_there id t (txn ∷ txns) (inr a) e = placed_there id txn (in_id_order txns) (inr (ordered_there id t txns a e))
 
 -- in order of stamp there are the same
-stamped_placed : (t txn : Transaction) (txns : List Transaction) → (txn ≡ t) ⊎ Among t txns → Among t (placed_by_stamp txn txns)
-stamped_placed t txn [] (inl e) = inl e
-stamped_placed t txn [] (inr none) = absurd none
-stamped_placed t txn (first ∷ rest) h = by (is_before first.stamp txn.stamp) (stamped_placed t txn rest) h
-  where
-    by : (b : Bool) → ((txn ≡ t) ⊎ Among t rest → Among t (placed_by_stamp txn rest)) → (txn ≡ t) ⊎ Among t (first ∷ rest) → Among t (cond b (first ∷ placed_by_stamp txn rest) (txn ∷ (first ∷ rest)))
-    by true again (inl e) = inr (again (inl e))
-    by true again (inr (inl e)) = inl e
-    by true again (inr (inr a)) = inr (again (inr a))
-    by false again (inl e) = inl e
-    by false again (inr a) = inr a
-
-stamped_from : (t txn : Transaction) (txns : List Transaction) → Among t (placed_by_stamp txn txns) → (txn ≡ t) ⊎ Among t txns
-stamped_from t txn [] (inl e) = inl e
-stamped_from t txn [] (inr none) = absurd none
-stamped_from t txn (first ∷ rest) a = by (is_before first.stamp txn.stamp) (stamped_from t txn rest) a
-  where
-    by : (b : Bool) → (Among t (placed_by_stamp txn rest) → (txn ≡ t) ⊎ Among t rest) → Among t (cond b (first ∷ placed_by_stamp txn rest) (txn ∷ (first ∷ rest))) → (txn ≡ t) ⊎ Among t (first ∷ rest)
-    by true again (inl e) = inr (inl e)
-    by true again (inr c) = elim (again c) [ inl e ↦ inl e | inr d ↦ inr (inr d) ]
-    by false again (inl e) = inl e
-    by false again (inr c) = inr c
-
 pub by_stamp_there : (t : Transaction) (txns : List Transaction) → Among t txns → Among t (in_stamp_order txns)
 by_stamp_there t [] a = absurd a
-by_stamp_there t (txn ∷ txns) (inl e) = stamped_placed t txn (in_stamp_order txns) (inl e)
-by_stamp_there t (txn ∷ txns) (inr a) = stamped_placed t txn (in_stamp_order txns) (inr (by_stamp_there t txns a))
+by_stamp_there t (txn ∷ txns) (inl e) = placed-there t txn (in_stamp_order txns) (inl e)
+by_stamp_there t (txn ∷ txns) (inr a) = placed-there t txn (in_stamp_order txns) (inr (by_stamp_there t txns a))
 
 pub by_stamp_from : (t : Transaction) (txns : List Transaction) → Among t (in_stamp_order txns) → Among t txns
 by_stamp_from t [] a = absurd a
-by_stamp_from t (txn ∷ txns) a = elim (stamped_from t txn (in_stamp_order txns) a) [ inl e ↦ inl e | inr b ↦ inr (by_stamp_from t txns b) ]
+by_stamp_from t (txn ∷ txns) a = elim (placed-from t txn (in_stamp_order txns) a) [ inl e ↦ inl e | inr b ↦ inr (by_stamp_from t txns b) ]
 
 -- fates keep the order
 each_fated : (x : Transaction) (fate : Transaction → Outcome) (txns : List Transaction) → Each (λ later. id_before x.id later.id ≡ true) txns →

@@ -56,23 +56,3 @@ module _ {X : Type 0} where
       by : (o : Option X) → slot slots r ≡ o → slot (keep_first slots r x o) q ≡ Some y
       by None none = set slots r q none e
       by (Some z) there = e
-
-  pub length-filled : (slots : List (Option X)) (r : ℕ) (x : X) → length (filled slots r x) ≡ length slots
-  length-filled slots r x = by (slot slots r)
-    where
-      by : (o : Option X) → length (keep_first slots r x o) ≡ length slots
-      by None = length-set slots r (Some x)
-      by (Some y) = refl
-
-  -- a slot that was filled is not empty
-  pub is_some-filled : (slots : List (Option X)) (r : ℕ) (x : X) → r < length slots → is_some (slot (filled slots r x) r) ≡ true
-  is_some-filled slots r x h = by (slot slots r) refl
-    where
-      set : (l : List (Option X)) (n : ℕ) → n < length l → is_some (slot (slice_set l n (Some x)) n) ≡ true
-      set [] n h = absurd (omega arith)
-      set (z ∷ l) zero h = refl
-      set (z ∷ l) (suc n) h = set l n (omega arith)
-
-      by : (o : Option X) → slot slots r ≡ o → is_some (slot (keep_first slots r x o) r) ≡ true
-      by None e = set slots r h
-      by (Some y) e = ap is_some e

@@ -10,7 +10,7 @@ use Rattle.mk_txn.specs.declared.Outcome.{Outcome}
 use Rattle.mk_txn.specs.declared.Outcome.TheVariants.{Commit}
 use Rattle.mk_txn.specs.Transactions.{same_id, id_before}
 use Rattle.mk_txn.specs.MarkMaps.{MarkMap, covers}
-use Rattle.mk_txn.proofs.IdOrder.{id_before-through, id_before-not_same, id-from_neither, same_id-tells, same_id-itself}
+use Rattle.mk_txn.proofs.IdOrder.{id_before-through, id_before-not_same, id_before-turned, same_id-tells}
 use Rattle.mk_words.specs.KeptOutcomes.{Outcomes, AreInIdOrder, put_outcome, outcome_of, not_covered}
 use Rattle.mk_trim.specs.Places.{place_of, has_outcome}
 
@@ -184,14 +184,6 @@ Each-put P id outcome (x ∷ xs) p h = by_order (Each-put P id outcome xs p h.1)
     by_order more false true = h
     by_order more false false = (p, h)
 
--- of two numbers that are not one, the one that is not before is after
-after : (a b : TxnId) → id_before a b ≡ false → same_id a b ≡ false → id_before b a ≡ true
-after a b e f = by_order (id_before b a) refl
-  where
-    by_order : (r : Bool) → id_before b a ≡ r → r ≡ true
-    by_order true g = refl
-    by_order false g = absurd (false≢true (sym f ∙ subst (λ other. same_id a other ≡ true) (id-from_neither a b e g) (same_id-itself a)))
-
 pub AreInIdOrder-put : (id : TxnId) (outcome : Outcome) (xs : Outcomes) → AreInIdOrder xs → AreInIdOrder (put_outcome id outcome xs)
 AreInIdOrder-put id outcome [] h = (tt, tt)
 AreInIdOrder-put id outcome (x ∷ xs) h = by_order (AreInIdOrder-put id outcome xs h.1) (id_before x.0 id) (same_id x.0 id) refl refl
@@ -201,7 +193,7 @@ AreInIdOrder-put id outcome (x ∷ xs) h = by_order (AreInIdOrder-put id outcome
     by_order more true c e f = (Each-put (λ later. id_before x.0 later.0 ≡ true) id outcome xs e h.0, more)
     by_order more false true e f = h
     by_order more false false e f =
-        let first : id_before id x.0 ≡ true = after x.0 id e f in
+        let first : id_before id x.0 ≡ true = id_before-turned x.0 id e f in
         ((first, Each-weaker (λ later. id_before x.0 later.0 ≡ true) (λ later. id_before id later.0 ≡ true) (λ later k. id_before-through id x.0 later.0 first k) xs h.0), h)
 
 Each-filter : (P : TxnId × Outcome → Type 0) (p : TxnId × Outcome → Bool) (xs : Outcomes) → Each P xs → Each P (filter p xs)

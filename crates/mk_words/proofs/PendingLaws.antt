@@ -45,7 +45,7 @@ below-without : (x s : Stamp) (list : List Stamp) → Each (λ y. is_before x y 
 below-without x s [] h = tt
 below-without x s (y ∷ ys) h = grind (arith, below-without x s ys h.1)
 
-below-through : (x s : Stamp) (list : List Stamp) → is_before x s ≡ true → Each (λ y. is_before s y ≡ true) list → Each (λ y. is_before x y ≡ true) list
+pub below-through : (x s : Stamp) (list : List Stamp) → is_before x s ≡ true → Each (λ y. is_before s y ≡ true) list → Each (λ y. is_before x y ≡ true) list
 below-through x s list e h = Each-weaker _ _ (λ y k. is_before-through x s y e k) list h
 
 pub IsAscending-joined : (s : Stamp) (list : List Stamp) → IsAscending list → IsAscending (joined s list)

@@ -1,7 +1,6 @@
 -- A table from stamps to transactions: its entries are the transactions in order of stamp.
 use Rattle.std.proofs.Common.{◌≡◌, ℕ, zero, suc, ◌<◌, ◌+◌, inl, inr, Bool, true, false, refl, sym, ap, subst, ◌∙◌, List, [], ◌∷◌, length, get_or, map, drop, add-one, arith, if◌then◌else◌, Ordering, Less, Equal, Greater}
 use Rattle.std.proofs.lemmas.Bool.{false≢true}
-use Rattle.std.proofs.lemmas.List.{drop_all}
 use Rattle.std.proofs.Math.Seq.{drop-cons}
 use Rattle.std.specs.Ordering.{is_lt, is_eq, match_ordering}
 use Rattle.std.specs.BTreeMap.{insert_entry}
@@ -79,13 +78,6 @@ drop-at xs i x within is =
 pub record AreInTable (all : List Transaction) (left : ℕ) (entries : List (Stamp × Bor Transaction)) : Type 0 where
   pub keyed : AreStamped entries
   pub ordered : txns_at entries ≡ in_stamp_order (drop left all)
-
-pub table-begins : (all : List Transaction) (left : ℕ) (entries : List (Stamp × Bor Transaction)) → left ≡ length all → entries ≡ [] →
-    AreInTable all left entries
-table-begins all left entries is none = record {
-  keyed = subst AreStamped (sym none) tt;
-  ordered = ap txns_at none ∙ sym (ap in_stamp_order (drop_all left all (let e = is in omega (arith, e))));
-}
 
 distinct-drop : (all : List Transaction) (i : ℕ) → AllDistinct (stamps_in all) → AllDistinct (stamps_in (drop i all))
 distinct-drop all zero h = h

@@ -6,7 +6,8 @@ use Rattle.mk_quorum.specs.Sizes.{hint_of}
 use Rattle.mk_words.specs.Merging.{ok_reports}
 use Rattle.mk_merge_laws.specs.Adding.{entered_fate, new_txns}
 use Rattle.mk_merge.proofs.FateLaws.{nows}
-use Rattle.mk_merge.proofs.StampLaws.{stamps_of, stamps-now}
+use Rattle.mk_words.proofs.StampOrdering.{stamps_in}
+use Rattle.mk_words.proofs.StampTables.{stamps-now}
 use Rattle.mk_merge.proofs.StandLaws.{ok-each}
 use Rattle.mk_merge_laws.proofs.Adding.{new-distinct, additions-are}
 use Rattle.mk_merge.proofs.merging.new_fates.Goals as goal
@@ -17,7 +18,7 @@ in_stamp_order-requires c =
     let test : Transaction → Bool = λ txn. is_none (entered_fate c.args.size ps txn.id) && nat_le (hint_of c.args.size) (ok_reports c.args.size ps txn.id) in
     let is : nows c.as_slice-3.result.now ≡ filter test (new_txns c.args.kept.now ps) =
     ap nows c.as_slice-3.ensures.value ∙ c.in_ok-waiting.ensures ∙ ap (filter test) (ap nows c.as_slice-2.ensures.value ∙ c.in_ok-txns.ensures) in
-    subst AllDistinct (sym (stamps-now c.as_slice-3.result.now)) (subst (λ (ts : List Transaction). AllDistinct (stamps_of ts)) (sym is) (new-distinct c.args.kept.now ps test c.requires))
+    subst AllDistinct (sym (stamps-now c.as_slice-3.result.now)) (subst (λ (ts : List Transaction). AllDistinct (stamps_in ts)) (sym is) (new-distinct c.args.kept.now ps test c.requires))
 
 pub returns : goal.returns
 returns c =

@@ -1,7 +1,7 @@
 use Rattle.std.proofs.Common.{◌<◌, ◌-◌, length, arith, subst}
 use Rattle.mk_lists.specs.Among.{AllDistinct}
 use Rattle.mk_merge.proofs.OrderLaws.{now-at}
-use Rattle.mk_merge.proofs.StampLaws.{table-next, stamps-now}
+use Rattle.mk_words.proofs.StampTables.{table-next, stamps-now}
 use Rattle.mk_merge.proofs.ordering.by_stamp.Goals as goal
 
 pub loop-left-preserved : goal.loop-left-preserved

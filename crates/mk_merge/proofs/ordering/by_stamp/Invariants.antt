@@ -1,5 +1,5 @@
 use Rattle.std.proofs.Common.{◌≤◌, length, map}
-use Rattle.mk_merge.proofs.StampLaws.{AreInTable}
+use Rattle.mk_words.proofs.StampTables.{AreInTable}
 use Rattle.mk_merge.proofs.ordering.by_stamp.Given as goal
 
 abbrev pub invariant-loop-left : goal.invariant-loop-left

@@ -1,6 +1,6 @@
 use Rattle.std.proofs.Common.{◌≡◌, ◌++◌, map}
 use Rattle.mk_words.specs.Bases.{in_stamp_order}
-use Rattle.mk_merge.proofs.StampLaws.{txns_at}
+use Rattle.mk_words.proofs.StampTables.{txns_at}
 use Rattle.mk_merge.proofs.ordering.in_stamp_order.Given as goal
 
 -- with the transactions that are left it comes to all of them
