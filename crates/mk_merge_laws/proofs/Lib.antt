@@ -9,4 +9,5 @@ pub mod Adding
 pub mod Lefts
 pub mod BaseWith
 pub mod Bare
+mod GreatestMarks
 pub mod MergeCases

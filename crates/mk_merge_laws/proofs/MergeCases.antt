@@ -12,7 +12,6 @@ use Rattle.mk_txn.specs.MarkMaps.{MarkMap}
 use Rattle.mk_txn.specs.Stamps.{zero_stamp}
 use Rattle.mk_txn.specs.Transactions.{Transaction}
 use Rattle.mk_words.specs.declared.Entry.{Entry}
-use Rattle.mk_words.specs.declared.Fated.{Fated}
 use Rattle.mk_words.specs.Bases.{BaseState, empty_base}
 use Rattle.mk_words.specs.Promises.{PromiseState}
 use Rattle.mk_words.specs.Merging.{merged}

@@ -2,3 +2,4 @@
 pub mod Composition
 pub mod Adding
 pub mod Lefts
+pub mod Marks

@@ -5,6 +5,7 @@
 #![tactic(auto)]
 
 ghost use Rattle.mk_merge_laws.specs.Composition.{OldFatesStay, FinalFatesStay, AcceptedFatesStay, UnsettledFates, NothingElse, StandsInOrder, RejectedConflict, CandidatesFit, OkReportsMean, ConflictIsMutual};
+ghost use Rattle.mk_merge_laws.specs.Marks.{MarksAreGreatest};
 ghost use Rattle.std.specs.Prelude.{ℕ, List};
 ghost use Rattle.mk_words.specs.Promises.{PromiseState};
 
@@ -16,6 +17,7 @@ pub fn fates_are_composed()
     ensures unsettled { (f epoch : ℕ) (promises : List PromiseState) → UnsettledFates f epoch promises }
     ensures nothing_else { (f epoch : ℕ) (promises : List PromiseState) → NothingElse f epoch promises }
     ensures in_order { (f epoch : ℕ) (promises : List PromiseState) → StandsInOrder f epoch promises }
+    ensures marks { (promises : List PromiseState) → MarksAreGreatest promises }
 {}
 
 /// Which candidates of a merge commit, and which are rejected.

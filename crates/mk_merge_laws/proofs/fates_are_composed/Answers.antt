@@ -1,4 +1,5 @@
 use Rattle.mk_merge_laws.proofs.Composed as laws
+use Rattle.mk_merge_laws.proofs.GreatestMarks.{marks_greatest}
 use Rattle.mk_merge_laws.proofs.fates_are_composed.Goals as goal
 
 pub returns : goal.returns
@@ -10,4 +11,5 @@ returns c =
       unsettled = laws.unsettled;
       nothing_else = laws.nothing_else;
       in_order = laws.in_order;
+      marks = marks_greatest;
     }
