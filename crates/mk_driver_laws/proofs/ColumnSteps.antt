@@ -46,7 +46,7 @@ sent_attempt link b id a d t w s =
 module _ (f : ℕ) (c : ColumnState) (k : ColumnFits f c) (l : List Learning) where
   -- nothing is done
   pub nothing_moves : (step : Step) → ((id : TxnId) → validates step id ≡ true → WasSent c.link id) → Moves f c (with_learned l c) step
-  nothing_moves step v = moves_plain f c (with_learned l c) step k refl refl refl [] ((sym (append-nil c.link))) tt v k.work
+  nothing_moves step v = moves_plain f c (with_learned l c) step k refl refl refl [] (sym (append-nil c.link)) tt v k.work
 
   -- ---- beginning
 

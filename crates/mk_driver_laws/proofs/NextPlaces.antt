@@ -82,7 +82,7 @@ module _ (P : ℕ → ℕ → Type 0) where
       if_nexts (goes_to_replica msg.body) _ _ (on_some_nexts (replica_takes round msg) (txn_of c msg.id) c h (λ txn. h))
       (if_nexts (msg.view == 0) _ _
       (if_nexts (listens (attempt_of c msg.id)) _ c
-      (nexts_change (is_client msg.id.client) (heard_of msg.body) c.clients (λ cl. ((heard_of-number msg.body cl, (heard_of-same msg.body cl).1)).0) (λ cl. ((heard_of-number msg.body cl, (heard_of-same msg.body cl).1)).1) h) h)
+      (nexts_change (is_client msg.id.client) (heard_of msg.body) c.clients (λ cl. heard_of-number msg.body cl) (λ cl. (heard_of-same msg.body cl).1) h) h)
       (if_nexts (is_led round msg.epoch msg.view) _ c h h))
 
   validated_nexts : (c : ColumnState) (txn : Transaction) (replica epoch : ℕ) (state : ValidationState) (act : Option KeyAct) → Nexts P c.clients → Nexts P (validated txn replica epoch state act c).clients

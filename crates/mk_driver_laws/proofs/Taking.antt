@@ -157,7 +157,7 @@ module _ (f : ℕ) (c : ColumnState) (k : ColumnFits f c) (l : List Learning) wh
       if_moves (Take number) (listens (attempt_of c msg.id)) _ c
       (both_change (Take number) (λ i. refl) msg.id (attempt_answered msg.replica msg.body) msg.id.client (heard_of msg.body) (λ x. refl)
       (λ x g. sent_attempt c.link false msg.id x (attempt_answered msg.replica msg.body x) refl w refl)
-      (λ x. ((heard_of-number msg.body x, (heard_of-same msg.body x).1)).0) (λ x. ((heard_of-number msg.body x, (heard_of-same msg.body x).1)).1))
+      (λ x. heard_of-number msg.body x) (λ x. (heard_of-same msg.body x).1))
       (nothing_moves f c k l (Take number) (λ i z. absurd (cc z)))
 
   same_takeover : (r : ℕ) (body : Body) (t : TakeoverOf) (b : Bool) →
@@ -170,7 +170,7 @@ module _ (f : ℕ) (c : ColumnState) (k : ColumnFits f c) (l : List Learning) wh
       if_moves (Take number) (is_led round msg.epoch msg.view) _ c
       (moves_by f c _ (Take number) k (λ i. Stays refl) (λ i o. o) refl
       (takeover_changed f c k l (takeover_answered msg.replica msg.body) msg.id msg.view (λ t. (same_takeover msg.replica msg.body t t.closed).0) (λ t. (same_takeover msg.replica msg.body t t.closed).1))
-      [] ((sym (append-nil c.link))) tt (λ i z. absurd (cc z)) k.work)
+      [] (sym (append-nil c.link)) tt (λ i z. absurd (cc z)) k.work)
       (nothing_moves f c k l (Take number) (λ i z. absurd (cc z)))
 
   taken_moves : (round : Setting) (number : ℕ) (msg : Msg) → WasSent c.link msg.id → Moves f c (with_learned l (taken round msg c)) (Take number)
@@ -194,7 +194,7 @@ module _ (f : ℕ) (c : ColumnState) (k : ColumnFits f c) (l : List Learning) wh
   validated_moves : (call : KeyCall) (answer : Answer) (txn : Transaction) (replica epoch : ℕ) (state : ValidationState) → WasSent c.link txn.id →
       (act : Option KeyAct) → next_act state ≡ act → Moves f c (with_learned l (validated txn replica epoch state act c)) (Key call answer)
   validated_moves call answer txn replica epoch state w (Some act) e =
-      moves_plain f c _ (Key call answer) k refl refl refl [] ((sym (append-nil c.link))) tt (λ i z. absurd (cc z)) (w, ap is_some e)
+      moves_plain f c _ (Key call answer) k refl refl refl [] (sym (append-nil c.link)) tt (λ i z. absurd (cc z)) (w, ap is_some e)
   validated_moves call answer txn replica epoch state w None e =
       moves_plain f c _ (Key call answer) k refl refl refl (voted_msg txn replica epoch (vote_of state) ∷ []) refl
       (plain_fits c (Key call answer) (voted_msg txn replica epoch (vote_of state)) (k.stamped txn.id w) w (λ i. refl), tt) (λ i z. absurd (cc z)) tt
@@ -203,20 +203,20 @@ module _ (f : ℕ) (c : ColumnState) (k : ColumnFits f c) (l : List Learning) wh
   key_moves call answer Idle h = nothing_moves f c k l (Key call answer) (λ i z. absurd (cc z))
   key_moves call answer (Fetching id replica key) h =
       moves_changed f c _ (Key call answer) k id (with_read key answer) refl (λ x. refl)
-      (λ x g. same_attempt c.link false id x (with_read key answer x) refl refl refl) refl refl [] ((sym (append-nil c.link))) tt (λ i z. absurd (cc z)) tt
+      (λ x g. same_attempt c.link false id x (with_read key answer x) refl refl refl) refl refl [] (sym (append-nil c.link)) tt (λ i z. absurd (cc z)) tt
   key_moves call answer (Validating txn replica epoch state) h =
       let next = after_answer state answer in validated_moves call answer txn replica epoch next h.0 (next_act next) refl
   key_moves call answer (Finishing replica []) h = absurd h
   key_moves call answer (Finishing replica (act ∷ acts)) h =
-      moves_plain f c _ (Key call answer) k refl refl refl [] ((sym (append-nil c.link))) tt (λ i z. absurd (cc z)) (finishing_fits c.link replica acts)
+      moves_plain f c _ (Key call answer) k refl refl refl [] (sym (append-nil c.link)) tt (λ i z. absurd (cc z)) (finishing_fits c.link replica acts)
 
   stop_moves : (id : TxnId) → Moves f c (with_learned l (change_attempt id (λ a. record a { stopped = true }) c)) (Stop id)
   stop_moves id =
       moves_changed f c _ (Stop id) k id (λ a. record a { stopped = true }) refl (λ x. refl)
-      (λ x g. record { txn = λ e. e; coord = inl refl; acts = λ h. h; stopped = λ e. absurd (cc (sym (same_id-itself id) ∙ e)) }) refl refl [] ((sym (append-nil c.link))) tt (λ i z. absurd (cc z)) k.work
+      (λ x g. record { txn = λ e. e; coord = inl refl; acts = λ h. h; stopped = λ e. absurd (cc (sym (same_id-itself id) ∙ e)) }) refl refl [] (sym (append-nil c.link)) tt (λ i z. absurd (cc z)) k.work
 
   read_moves : (id : TxnId) (key : ℕ) (o : Option AttemptState) → Moves f c (with_learned l (on_some (λ a col. record col { work = Fetching id a.replica key }) o c)) (Read id key)
-  read_moves id key (Some a) = moves_plain f c _ (Read id key) k refl refl refl [] ((sym (append-nil c.link))) tt (λ i z. absurd (cc z)) tt
+  read_moves id key (Some a) = moves_plain f c _ (Read id key) k refl refl refl [] (sym (append-nil c.link)) tt (λ i z. absurd (cc z)) tt
   read_moves id key None = nothing_moves f c k l (Read id key) (λ i z. absurd (cc z))
 
   picking_moves : (round : Setting) (id : TxnId) (view : ℕ) (a : AttemptState) → round.faults ≡ f → attempt_of c a.id ≡ Some a → (o : Option TakeoverOf) → takeover_of c a.id view ≡ o →
