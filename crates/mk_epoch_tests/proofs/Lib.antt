@@ -1,1 +1,2 @@
 mod ReachedCalls
+mod Handing
