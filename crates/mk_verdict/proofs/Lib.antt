@@ -1,0 +1,4 @@
+pub mod SameFacts
+pub mod FirstFacts
+mod Rounds
+mod Exact
