@@ -1,8 +1,9 @@
 //! The own coordinator of an attempt, which works at view 0.
-ghost use Rattle.std.specs.Prelude.{◌≡◌, ◌<◌, Some, length};
+ghost use Rattle.std.specs.Prelude.{◌≡◌, ◌<◌, ◌≤◌, Some, length};
 ghost use Rattle.mk_quorum.specs.Sizes.{members};
+ghost use Rattle.mk_quorum.specs.Slots.{count_slots};
 ghost use Rattle.mk_words.specs.declared.Ruling.TheVariants.{Propose};
-ghost use Rattle.mk_words.specs.Rulings.{new_coord, vote_counted, accept_counted, coord_proposed, coord_taught, ruling, by_votes as votes_ruling, by_accepts as accepts_ruling};
+ghost use Rattle.mk_words.specs.Rulings.{new_coord, vote_counted, accept_counted, coord_proposed, coord_taught, ruling, by_votes as votes_ruling, by_accepts as accepts_ruling, any_vote, count_accepts as accepts_of};
 
 use crate::Ruling;
 use crate::counting::{count_aborts, count_oks, count_votes, first_refusal};
@@ -78,6 +79,38 @@ impl Coord {
         self.learned = self.learned.or(Some(outcome));
     }
 
+    // The votes of the replicas that there are.
+    fn votes(&self) -> &[Option<Vote>]
+        ensures slots { result.now ≡ self.now.state.votes }
+        ensures count { length result.now ≡ members self.now.faults }
+        ensures few { length result.now ≤ 7 }
+    {
+        &self.votes[..self.size.n() as usize]
+    }
+
+    // Which of the replicas that there are accepted.
+    fn accepts(&self) -> &[Option<bool>]
+        ensures slots { result.now ≡ self.now.state.accepts }
+        ensures count { length result.now ≡ members self.now.faults }
+        ensures few { length result.now ≤ 7 }
+    {
+        &self.accepts[..self.size.n() as usize]
+    }
+
+    /// How many replicas voted.
+    pub fn vote_count(&self) -> u32
+        ensures { result ≡ count_slots (members self.now.faults) any_vote self.now.state.votes }
+    {
+        count_votes(self.votes()) as u32
+    }
+
+    /// How many replicas accepted the proposal.
+    pub fn accept_count(&self) -> u32
+        ensures { result ≡ accepts_of self.now.faults self.now.state.accepts }
+    {
+        count_accepts(self.accepts()) as u32
+    }
+
     /// What was taken so far gives.
     pub fn decide(&self) -> Ruling
         ensures { result ≡ ruling self.now.faults self.now.state }
@@ -85,10 +118,9 @@ impl Coord {
         if let Some(outcome) = self.learned {
             return Ruling::Learned(outcome);
         }
-        let n = self.size.n() as usize;
         match self.proposed {
-            Some(outcome) => by_accepts(self.size, outcome, &self.accepts[..n]),
-            None => by_votes(self.size, &self.votes[..n]),
+            Some(outcome) => by_accepts(self.size, outcome, self.accepts()),
+            None => by_votes(self.size, self.votes()),
         }
     }
 }

@@ -1,8 +1,10 @@
 //! A takeover of an attempt by a backup coordinator.
 ghost use Rattle.std.specs.Prelude.{◌≡◌, ◌<◌, ◌≤◌, Some, length};
 ghost use Rattle.mk_quorum.specs.Sizes.{members};
+ghost use Rattle.mk_quorum.specs.Slots.{count_slots};
 ghost use Rattle.mk_words.specs.declared.Pick.TheVariants.{Propose};
-ghost use Rattle.mk_words.specs.Picks.{new_takeover, reply_counted, accept_counted, takeover_proposed, takeover_taught, pick, by_promises as promises_pick, by_counts as counts_pick, by_accepts as accepts_pick};
+ghost use Rattle.mk_words.specs.Picks.{new_takeover, reply_counted, accept_counted, takeover_proposed, takeover_taught, pick, by_promises as promises_pick, by_counts as counts_pick, by_accepts as accepts_pick, is_promise};
+ghost use Rattle.mk_words.specs.Rulings.{count_accepts as accepts_of};
 
 use crate::Pick;
 use crate::promising::{count_oks, count_others, count_promises, highest_accepted};
@@ -84,6 +86,20 @@ impl Takeover {
         self.learned = self.learned.or(Some(outcome));
     }
 
+    /// How many replicas promised the view.
+    pub fn promise_count(&self) -> u32
+        ensures { result ≡ count_slots (members self.now.faults) is_promise self.now.state.told }
+    {
+        count_promises(self.told()) as u32
+    }
+
+    /// How many replicas accepted the proposal.
+    pub fn accept_count(&self) -> u32
+        ensures { result ≡ accepts_of self.now.faults self.now.state.accepts }
+    {
+        count_accepts(self.accepts()) as u32
+    }
+
     /// What was taken so far gives.
     pub fn decide(&self) -> Pick
         ensures { result ≡ pick self.now.faults self.now.state }
@@ -91,9 +107,8 @@ impl Takeover {
         if let Some(outcome) = self.learned {
             return Pick::Known(outcome);
         }
-        let n = self.size.n() as usize;
         match self.proposed {
-            Some(outcome) => by_accepts(self.size, outcome, &self.accepts[..n]),
+            Some(outcome) => by_accepts(self.size, outcome, self.accepts()),
             None => self.by_promises(),
         }
     }
@@ -105,6 +120,15 @@ impl Takeover {
         ensures few { length result.now ≤ 7 }
     {
         &self.told[..self.size.n() as usize]
+    }
+
+    /// Which of the replicas that there are accepted.
+    fn accepts(&self) -> &[Option<bool>]
+        ensures slots { result.now ≡ self.now.state.accepts }
+        ensures count { length result.now ≡ members self.now.faults }
+        ensures few { length result.now ≤ 7 }
+    {
+        &self.accepts[..self.size.n() as usize]
     }
 
     /// A majority of promises proposes again what was accepted in the highest view.
