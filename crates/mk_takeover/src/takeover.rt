@@ -71,6 +71,13 @@ impl Takeover {
         self.proposed = Some(outcome);
     }
 
+    /// What it proposed.
+    pub fn proposed(&self) -> Option<Outcome>
+        ensures { result ≡ self.now.state.proposed }
+    {
+        self.proposed
+    }
+
     /// Takes that a replica accepted the proposal, which counts once for each.
     pub fn take_accepted(&mut self, replica: u32)
         requires { replica < members self.old.faults }
