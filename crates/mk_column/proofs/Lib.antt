@@ -23,3 +23,4 @@ pub mod HearLaws
 pub mod GrownLaws
 pub mod QuietSteps
 pub mod GrownSteps
+mod LeavingLaws

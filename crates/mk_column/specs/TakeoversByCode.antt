@@ -1,5 +1,6 @@
 -- What the code keeps of a takeover.
-use Rattle.std.specs.Prelude.{ℕ, Bool, ◌&&◌, ◌==◌, false, List, Option, find, map, option_map, option_copied}
+use Rattle.std.specs.Prelude.{ℕ, Bool, ◌&&◌, ◌==◌, false, List, [], ◌∷◌, Option, Some, None, find, map, option_map, option_copied, if◌then◌else◌}
+use Rattle.std.specs.Option.{option_or}
 use Rattle.std.specs.Borrow.{Bor}
 use Rattle.mk_lists.specs.Changed.{change}
 use Rattle.mk_txn.specs.declared.TxnId.{TxnId}
@@ -32,6 +33,11 @@ view_id_of backup = record { id = backup.of.id; view = backup.of.state.view }
 -- the takeover of this attempt at this view
 abbrev pub backup_of : ViewId → List BackupView → Option BackupView
 backup_of view_id all = find (λ backup. is_takeover view_id.id view_id.view backup.of) all
+
+-- the takeover of this attempt that began last
+abbrev pub last_backup : TxnId → List BackupView → Option BackupView
+last_backup id [] = None
+last_backup id (backup ∷ rest) = option_or (last_backup id rest) (if same_id backup.of.id id then Some backup else None)
 
 -- the takeover of this attempt at this view is changed, and no other
 abbrev pub change_backup : ViewId → (BackupView → BackupView) → List BackupView → List BackupView

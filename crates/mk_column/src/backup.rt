@@ -5,9 +5,11 @@ ghost use Rattle.mk_words.specs.declared.Pick.TheVariants.{Propose};
 ghost use Rattle.mk_words.specs.Picks.{pick as pick_of};
 ghost use Rattle.mk_model.specs.Answers.{takeover_answered, state_answered};
 ghost use Rattle.mk_model.specs.Steps.{closing, takeover_proposing};
+ghost use Rattle.mk_history.specs.Leaving.{left_in_takeover};
 ghost use Rattle.mk_column.specs.TakeoversByCode.{backup_begun, on_backup, view_id_of};
 
 use crate::begun::taught_by;
+use mk_history::Left;
 use mk_quorum::Size;
 use mk_takeover::Takeover;
 use mk_txn::{Outcome, TxnId};
@@ -70,6 +72,19 @@ impl Backup {
         ensures { result ≡ pick_of self.now.faults self.now.of.state }
     {
         self.takeover.decide()
+    }
+
+    /// How its attempt stands by it where nobody has learned the outcome.
+    pub(crate) fn left(&self) -> Left
+        ensures { result ≡ left_in_takeover self.now.faults self.now.of.state self.now.of.state.proposed }
+    {
+        if self.takeover.proposed().is_some() {
+            return Left::Unaccepted(self.takeover.accept_count());
+        }
+        match self.takeover.decide() {
+            Pick::Unclear { ok, not_ok } => Left::Unclear { ok, not_ok },
+            _ => Left::Short(self.takeover.promise_count()),
+        }
     }
 
     /// It is done.

@@ -1,5 +1,5 @@
 //! An attempt with its own coordinator.
-ghost use Rattle.std.specs.Prelude.{◌≡◌, ◌<◌, ◌≤◌, ◌^◌, nat_lt, ◌∷◌, ◌++◌, [], true, false, Some, OnOk, OnErr};
+ghost use Rattle.std.specs.Prelude.{◌≡◌, ◌<◌, ◌≤◌, ◌^◌, nat_lt, ◌∷◌, ◌++◌, [], true, false, Some, None, OnOk, OnErr};
 ghost use Rattle.std.specs.Option.{option_or};
 ghost use Rattle.std.specs.List.{list_any};
 ghost use Rattle.mk_txn.specs.Stamps.{next_stamp_of};
@@ -12,10 +12,12 @@ ghost use Rattle.mk_model.specs.Answers.{moved_outcome, attempt_answered};
 ghost use Rattle.mk_model.specs.Steps.{new_attempt, unread_attempt, proposing, taught};
 ghost use Rattle.mk_column.specs.StepsByCode.{taught_where};
 ghost use Rattle.mk_model.specs.Logs.{not_reading};
+ghost use Rattle.mk_history.specs.Leaving.{left_unless_taken_over};
 ghost use Rattle.mk_column.specs.AttemptsByCode.{as_begun, on_state};
 
 use crate::{Attempt, Reads};
 use mk_coord::Coord;
+use mk_history::Left;
 use mk_quorum::Size;
 use mk_txn::{Cause, Known, NoMemory, Outcome, ReadItem, Stamp, Txn, TxnId, next_stamp};
 use mk_words::{Body, Moved, Ruling};
@@ -125,6 +127,19 @@ impl Begun {
         ensures { result ≡ ruling_of self.now.faults self.now.state.coord }
     {
         self.coord.decide()
+    }
+
+    /// How it stands where nobody has learned its outcome and no takeover of it was begun.
+    pub(crate) fn left(&self) -> Left
+        ensures { result ≡ left_unless_taken_over self.now.faults self.now.state None }
+    {
+        if self.shown.stopped {
+            return Left::Stopped;
+        }
+        match self.shown.proposed {
+            Some(_) => Left::Unaccepted(self.coord.accept_count()),
+            None => Left::Short(self.coord.vote_count()),
+        }
     }
 
     /// The key was not read yet, and fewer than 16 were.

@@ -11,7 +11,7 @@ use mk_txn::{NoMemory, Outcome, TxnId};
 /// How an outcome was learned: by fast votes, by accepts of the own proposal, by the pick of a view that a majority
 /// accepted, by a replica of a later epoch, by being told, or by a replica's finishing.
 #[derive(Clone, Copy)]
-pub(crate) enum Way {
+pub enum Way {
     Votes,
     Accepts,
     Pick(u32),
@@ -22,10 +22,10 @@ pub(crate) enum Way {
 
 /// Somebody learned the outcome of an attempt.
 #[derive(Clone, Copy)]
-pub(crate) struct Learned {
-    pub(crate) id: TxnId,
-    pub(crate) outcome: Outcome,
-    pub(crate) way: Way,
+pub struct Learned {
+    pub id: TxnId,
+    pub outcome: Outcome,
+    pub way: Way,
 }
 
 /// The own coordinator of the lesson's attempt learns it, which settles the attempt. The first outcome stays.

@@ -19,6 +19,7 @@ mod growing;
 mod hearing;
 mod hearing_takeover;
 mod learned;
+mod leaving;
 mod outlet;
 mod parts;
 mod replica;
@@ -31,6 +32,8 @@ mod work;
 
 pub use column::Column;
 pub use growing::grows_through;
+pub use learned::{Learned, Way};
+pub use mk_history::Left;
 pub use mk_trim::ReplicaView;
 use mk_txn::{NoMemory, Outcome, ReadItem, Txn, TxnId, WriteItem};
 pub use mk_words::{KeyCall, Phase, Step, Writes};

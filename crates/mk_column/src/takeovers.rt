@@ -5,11 +5,11 @@ ghost use Rattle.mk_words.specs.declared.Pick.TheVariants.{Propose};
 ghost use Rattle.mk_words.specs.Picks.{pick as pick_of};
 ghost use Rattle.mk_model.specs.Answers.{takeover_answered};
 ghost use Rattle.mk_model.specs.Steps.{closing, takeover_proposing};
-ghost use Rattle.mk_column.specs.TakeoversByCode.{BackupView as OneBackup, on_backup, view_id_of, backup_of, change_backup};
+ghost use Rattle.mk_column.specs.TakeoversByCode.{BackupView as OneBackup, on_backup, view_id_of, backup_of, change_backup, last_backup};
 
 use crate::backup::{Backup, ViewId};
 use indexmap::IndexSet;
-use mk_txn::{NoMemory, Outcome};
+use mk_txn::{NoMemory, Outcome, TxnId, same_id};
 use mk_words::Body;
 use std::alloc::Global;
 use std::marker::Model;
@@ -57,6 +57,19 @@ impl Takeovers {
         ensures { option_copied result ≡ slice_get self.now place }
     {
         self.items.get(place)
+    }
+
+    /// The takeover of the attempt that began last.
+    pub(crate) fn last_of(&self, id: TxnId) -> Option<&Backup>
+        ensures { option_copied result ≡ last_backup id self.now }
+    {
+        let mut last = None;
+        for backup in self.items.iter() {
+            if same_id(backup.view_id().id, id) {
+                last = Some(backup);
+            }
+        }
+        last
     }
 
     pub(crate) fn len(&self) -> usize
