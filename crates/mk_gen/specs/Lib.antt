@@ -1,0 +1,3 @@
+pub mod WordStream
+pub mod Drawn
+pub mod Generated
