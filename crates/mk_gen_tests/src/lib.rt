@@ -1,0 +1,5 @@
+//! Tests of generated scripts.
+#![tactic(auto)]
+
+#[cfg(test)]
+mod script;
