@@ -14,8 +14,6 @@ mod stages;
 mod starting;
 mod stepping;
 mod tasks;
-#[cfg(test)]
-mod tests;
 mod views;
 
 use mk_proc::Item;
