@@ -59,7 +59,16 @@ numbered names txn = record { client = txn.client; clock = txn.clock; items = ma
 -- a script of version 1 with f = 1, so many clients, these keys, and these transactions in one round
 abbrev pub one_round : ℕ → List (List ℕ) → List TxnLine → ScriptParts
 one_round clients keys txns =
-    record { version = 1; size = 1; clients = client_lines clients; keys = keys; retry = 0; faults = []; stops = []; rounds = record { txns = txns; takeovers = []; globals = [] } ∷ [] }
+    record {
+      version = 1;
+      size = 1;
+      clients = client_lines clients;
+      keys = keys;
+      retry = 0;
+      faults = [];
+      stops = [];
+      rounds = record { txns = txns; takeovers = []; globals = [] } ∷ [];
+    }
 
 -- the script of transactions, whose keys are numbered in order of first mention
 abbrev pub script_of_txns : ℕ → List TxnLine → ScriptParts
