@@ -127,8 +127,7 @@ standing_after script round standing step =
 -- after these steps
 abbrev pub standing_through : ScriptParts → Setting → Standing → List Step → Standing
 standing_through script round standing [] = standing
-standing_through script round standing (step ∷ steps) =
-    standing_through script round (standing_after script round standing step) steps
+standing_through script round standing (step ∷ steps) = standing_through script round (standing_after script round standing step) steps
 
 -- what the global lines of a round do to a column's records
 abbrev pub reset_by_line : GlobalLine → ColumnState → ColumnState
@@ -167,8 +166,7 @@ standing_past script c number standing (past ∷ rounds) =
 
 -- driver and column after the rounds so far and the log so far
 abbrev pub standing_at : ScriptParts → ℕ → List PastRound → List ReplicaView → List Step → Standing
-standing_at script c rounds views log =
-    standing_through script (setting_in script views) (standing_past script c 0 (first_standing script c) rounds) log
+standing_at script c rounds views log = standing_through script (setting_in script views) (standing_past script c 0 (first_standing script c) rounds) log
 
 -- what is named next
 abbrev pub next_at : ScriptParts → Setting → Standing → Next

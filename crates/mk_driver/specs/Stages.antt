@@ -125,22 +125,18 @@ stage_four round column caller id coord None driver = closed_by column caller id
 
 -- stage 2
 abbrev pub validated : ColumnState → Caller → TxnId → DriverState → Turn
-validated column caller id driver =
-    Steps (Validate id) (DeliverSince (length column.link) ∷ (Reach id AfterVotes ∷ [])) (left caller driver)
+validated column caller id driver = Steps (Validate id) (DeliverSince (length column.link) ∷ (Reach id AfterVotes ∷ [])) (left caller driver)
 
 -- the stage after the one that was done
 abbrev pub stage_after : Setting → ColumnState → Caller → TxnId → Point → Option AttemptState → DriverState → Turn
 stage_after round column caller id AfterRead (Some attempt) driver = validated column caller id driver
-stage_after round column caller id AfterVotes (Some attempt) driver =
-    stage_three round column caller id attempt.coord attempt.coord.learned driver
-stage_after round column caller id AfterAccepts (Some attempt) driver =
-    stage_four round column caller id attempt.coord attempt.coord.learned driver
+stage_after round column caller id AfterVotes (Some attempt) driver = stage_three round column caller id attempt.coord attempt.coord.learned driver
+stage_after round column caller id AfterAccepts (Some attempt) driver = stage_four round column caller id attempt.coord attempt.coord.learned driver
 stage_after round column caller id point None driver = Silent (left caller driver)
 
 -- an attempt under way goes on, and else the next one begins
 abbrev pub turn_by : Setting → ColumnState → Caller → Option Stage → DriverState → Turn
-turn_by round column caller (Some stage) driver =
-    stage_after round column caller stage.id stage.reached (attempt_of column stage.id) driver
+turn_by round column caller (Some stage) driver = stage_after round column caller stage.id stage.reached (attempt_of column stage.id) driver
 turn_by round column caller None driver = begin_next round column caller (next_request caller) driver
 
 -- a client's turn

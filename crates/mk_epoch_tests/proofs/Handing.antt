@@ -22,8 +22,3 @@ uncovered base id known is n = by (covers base.marks id) is
 pub entry_fits : (base : BaseState) (entry : Entry) (kept : KeptOutcomes) (known : Known) → known ≡ known_of kept entry.txn.id → kept ≡ kept_of base → (known ≡ Forgotten → ⊥) → fits_base base entry.txn ≡ true → EntryFits base entry
 entry_fits base entry kept known is same n fit =
     record { voted = λ ok. fit; uncovered = uncovered base entry.txn.id known (is ∙ ap (λ (k : KeptOutcomes). known_of k entry.txn.id) same) n }
-
-pub each_next : {X : Type 0} (P : X → Type 0) (xs : List X) (i : ℕ) (x : X) → i < length xs → x ≡ get_or xs i x → Each P (take i xs) → P x → Each P (take (suc i) xs)
-each_next P [] i x within is h p = absurd (omega (arith, within))
-each_next {X} P (y ∷ xs) zero x within is h p = (subst P is p, tt)
-each_next P (y ∷ xs) (suc i) x within is h p = (h.0, each_next P xs i x (omega (arith, within)) is h.1 p)

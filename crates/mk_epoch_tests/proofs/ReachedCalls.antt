@@ -129,7 +129,3 @@ merge_reached stands lead old new epoch None r does = subst (λ v. StandsReached
 pub merge_fits : {B : Type 0} (stands : B → BaseState → Type 0) (old : ReplicasView B) (epoch : ℕ) → ((state : EpochState) → IsReached state → (e : ℕ) → ArePromises (promises_for e state)) → StandsReached stands old →
     (state : EpochState) × StandsFor stands old state × ArePromises (promises_for epoch state)
 merge_fits stands old epoch fit r = (r.state, r.stood_for, fit r.state r.reached epoch)
-
--- nothing was handed in at the start
-pub first_reached : {B : Type 0} (stands : B → BaseState → Type 0) (kept : ReplicasView B) (f : ℕ) → ((n : ℕ) → IsReached (first_epochs n)) → StandsFor stands kept (first_epochs f) → StandsReached stands kept
-first_reached stands kept f begins h = record { state = first_epochs f; reached = begins f; stood_for = h; handed = λ t none. absurd none }

@@ -7,7 +7,6 @@ use Rattle.mk_spelling.specs.declared.fault.TextFault.TheVariants as faults
 use Rattle.mk_spelling.specs.Words.{is_name, number}
 use Rattle.mk_spelling.specs.Fields.{◌>>=◌, ◌>>◌, need, found, named, place}
 use Rattle.mk_spelling.proofs.FieldLaws.{bind_ok, need_ok, ok_is}
-use Rattle.mk_spelling.proofs.PlaceLaws.{place_new, place_stays}
 use Rattle.mk_proc.specs.declared.Item.{Item}
 use Rattle.mk_proc.specs.declared.Item.TheVariants as items
 use Rattle.mk_script.specs.declared.error.LineError.{LineError}
@@ -17,7 +16,7 @@ use Rattle.mk_script.specs.Scripts.{or_zero}
 use Rattle.mk_script.specs.Grammar.{Mention, key_of, keys_after, number_of, item_of}
 use Rattle.mk_script.specs.LineWords.{proc_text, proc_list}
 use Rattle.mk_script.specs.Grammar.Mention.{Reads, Writes, Computes, Deletes}
-use Rattle.mk_script.specs.GrownKeys.{keys_grow, length_grows}
+use Rattle.mk_script.specs.GrownKeys.{length_grows, item_stays}
 use Rattle.mk_script.specs.ItemShapes.{Shape, shape, mention_of, mentions_of}
 use Rattle.mk_script.specs.ItemShapes.Shape.{ReadShape, WriteShape, ComputeShape, DeleteShape}
 use Rattle.mk_script.specs.Seen.{ok_or_nil, mentioned, IsFull}
@@ -25,34 +24,6 @@ use Rattle.mk_script.specs.Seen.{ok_or_nil, mentioned, IsFull}
 pub full_stays : (e : LineError) (keys : List (List ℕ)) (ms : List Mention) → IsFull e keys → IsFull e (keys_after keys ms)
 full_stays errors.Memory keys ms h = tt
 full_stays (errors.Fault fault) keys ms h = (h.0, omega (arith, h.1, length_grows keys ms))
-
--- a key that is there keeps its number
-number_stays : (w : List ℕ) (keys : List (List ℕ)) (ms : List Mention) (n : ℕ) → place w keys ≡ Some n → number_of (keys_after keys ms) w ≡ n
-number_stays w keys ms n h =
-    let g = keys_grow keys ms in
-    rw (g.1, place_stays w keys g.0 n h) refl
-
-pub added_place : (w : List ℕ) (keys : List (List ℕ)) → (n : ℕ) × (place w (with_name keys w) ≡ Some n)
-added_place w keys = here (place w keys) refl
-  where
-    here : (o : Option ℕ) → place w keys ≡ o → (n : ℕ) × (place w (cond (is_some (place w keys)) keys (keys ++ w ∷ [])) ≡ Some n)
-    here None e = (length keys, rw e (place_new w keys e))
-    here (Some n) e = (n, rw (e) e)
-
-pub item_stays : (m : Mention) (keys : List (List ℕ)) (ms : List Mention) → item_of (with_name keys (key_of m)) m ≡ item_of (keys_after keys (m ∷ ms)) m
-item_stays m keys ms = here m same
-  where
-    same : number_of (with_name keys (key_of m)) (key_of m) ≡ number_of (keys_after keys (m ∷ ms)) (key_of m)
-    same =
-        let p = added_place (key_of m) keys in
-        ap or_zero p.1 ∙ sym (number_stays (key_of m) (with_name keys (key_of m)) ms p.0 p.1)
-
-    here : (x : Mention) → number_of (with_name keys (key_of m)) (key_of x) ≡ number_of (keys_after keys (m ∷ ms)) (key_of x)
-        → item_of (with_name keys (key_of m)) x ≡ item_of (keys_after keys (m ∷ ms)) x
-    here (Reads key) e = ap (λ (n : ℕ). items.Read n) e
-    here (Writes key v) e = ap (λ (n : ℕ). items.Write n v) e
-    here (Computes key proc v) e = ap (λ (n : ℕ). items.Compute n proc v) e
-    here (Deletes key) e = ap (λ (n : ℕ). items.Delete n) e
 
 -- ---- items of words
 

@@ -28,8 +28,7 @@ use Rattle.mk_script.specs.Texts.{ended, IsScript}
 use Rattle.mk_script.specs.Parsed.{script_text}
 use Rattle.mk_script.specs.Printed.{client_name, key_name, mention_in, client_line, retry_lines, fault_line, stop_line, txn_line, takeover_line, global_line, round_lines, next_lines, rounds_lines, lines_of, line_text, text_of, print_text}
 use Rattle.mk_script.specs.Whole.{Prefixed, IsClientBehind, IsOwned, IsAttemptOf, IsFaultBehind, IsStopBehind, IsTxnAt, TxnsAt, IsTakeoverOf, IsRoundAt, RoundsAt, AreRounds, IsWhole}
-use Rattle.mk_script.specs.GrownKeys.{keys_grow}
-use Rattle.mk_script.proofs.KeyLaws.{added_place}
+use Rattle.mk_script.specs.GrownKeys.{keys_grow, added_place}
 use Rattle.mk_spelling.proofs.PlaceLaws.{place_stays, place-get}
 use Rattle.mk_script.proofs.WholeLaws.{small_after, text_from_IsScript}
 
