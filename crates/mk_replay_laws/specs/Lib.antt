@@ -1,0 +1,2 @@
+-- Runs whose global lines are replayed.
+pub mod AtLines
