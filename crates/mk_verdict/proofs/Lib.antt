@@ -1,4 +1,4 @@
 pub mod SameFacts
 pub mod FirstFacts
-mod Rounds
-mod Exact
+pub mod Rounds
+pub mod Exact
