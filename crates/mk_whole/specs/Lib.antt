@@ -1,0 +1,11 @@
+-- Rounds that are replayed.
+pub mod Pairs
+pub mod Turns
+pub mod Journals
+pub mod Matches
+pub mod Logs
+pub mod Starting
+pub mod Handing
+pub mod Beginning
+pub mod Working
+pub mod Standings
