@@ -1,0 +1,13 @@
+mod FirstLaws
+mod LineLaws
+mod FoundLaws
+mod CountLaws
+mod NewsLaws
+mod OutcomeLaws
+mod RoundLaws
+mod JudgeLaws
+mod NotedLaws
+mod TellLaws
+mod EnterLaws
+mod WatchLaws
+mod StandLaws
