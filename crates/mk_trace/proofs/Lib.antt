@@ -1,0 +1,10 @@
+pub mod LinesMore
+pub mod PieceLaws
+pub mod Tables
+pub mod Written
+pub mod HandedOut
+pub mod FitLaws
+pub mod LineFits
+pub mod KeepLaws
+pub mod WholeText
+pub mod GrownTables

@@ -1,0 +1,18 @@
+//! Traces: the text of a run, and a run from its text.
+#![tactic(auto)]
+
+mod error;
+mod fields;
+mod laws;
+mod places;
+mod reader;
+mod rounds;
+mod section;
+mod tracing;
+mod writing;
+
+pub use error::TraceError;
+pub use laws::{a_piece_follows_the_text, pieces_are_the_text, read_rounds_are_a_run};
+pub use mk_text::TextFault;
+pub use tracing::{TraceReader, read_trace};
+pub use writing::write_trace;
