@@ -1,0 +1,6 @@
+pub mod ReportTexts
+pub mod Seen
+pub mod StoreTexts
+pub mod WholeReports
+pub mod Commits
+pub mod RunReports

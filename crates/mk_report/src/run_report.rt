@@ -1,0 +1,95 @@
+//! The report and the summary of a run.
+ghost use Rattle.std.specs.Prelude.{◌≡◌, ◌++◌, IfOk, OnOk};
+ghost use Rattle.mk_model.specs.OneCopy.{HaveDistinctStamps, one_copy};
+ghost use Rattle.mk_history.specs.Legality.{IsLegal};
+ghost use Rattle.mk_report.specs.Commits.{commit_in, commits_in};
+ghost use Rattle.mk_report.specs.RunReports.{report_of, summary_of};
+
+use crate::laws::commits_are_distinct;
+use crate::report::{is_committed, put_report, put_summary};
+use mk_replay::{OneCopy, replay};
+use mk_run::{AttemptLine, Run, outcomes};
+use mk_txn::{NoMemory, Stamp, Txn};
+use std::alloc::Global;
+
+// The transaction of a line with this stamp. Want of memory is its only error in a legal run, whose transactions have no fault.
+fn copy_txn(alloc: Global, line: &AttemptLine, stamp: Stamp) -> Result<Txn, NoMemory>
+    ensures { IfOk result (λ txn. txn ≡ record { id = line.now.id; stamp = stamp; reads = line.now.reads; writes = line.now.writes }) }
+{
+    let made = Txn::new(
+        alloc,
+        line.id,
+        stamp,
+        line.reads.as_slice(),
+        line.writes.as_slice(),
+    );
+    match made {
+        Ok(txn) => Ok(txn),
+        Err(_) => Err(NoMemory),
+    }
+}
+
+fn push_commit(alloc: Global, txns: &mut Vec<Txn>, line: &AttemptLine) -> Result<(), NoMemory>
+    ensures { OnOk result (txns.new.items ≡ txns.old.items ++ commit_in line.now) }
+{
+    match line.stamp {
+        Some(stamp) if is_committed(line.state) => txns.push(copy_txn(alloc, line, stamp)?)?,
+        _ => {}
+    }
+    Ok(())
+}
+
+// The transactions of the lines that say commit.
+fn commits(alloc: Global, lines: &[AttemptLine]) -> Result<Vec<Txn>, NoMemory>
+    ensures { IfOk result (λ txns. txns.items ≡ commits_in lines.now) }
+{
+    let mut txns = Vec::new(alloc);
+    'each: for line in lines {
+        push_commit(alloc, &mut txns, line)?;
+    }
+    Ok(txns)
+}
+
+fn copy_of(alloc: Global, lines: &[AttemptLine]) -> Result<OneCopy, NoMemory>
+    requires { HaveDistinctStamps (commits_in lines.now) }
+    ensures { IfOk result (λ copy. copy ≡ one_copy (commits_in lines.now)) }
+{
+    let txns = commits(alloc, lines)?;
+    replay(alloc, &txns)
+}
+
+/// The report of a run.
+pub fn report_text(alloc: Global, run: &Run) -> Result<Vec<u8>, NoMemory>
+    requires { IsLegal run.now }
+    ensures { IfOk result (λ text. text.items ≡ report_of run.now) }
+{
+    commits_are_distinct();
+    let lines = outcomes(alloc, run)?;
+    let head = run.head();
+    let copy = copy_of(alloc, &lines)?;
+    let mut out = String::new(alloc);
+    put_report(
+        &mut out,
+        alloc,
+        &head.client_names,
+        &head.key_names,
+        &lines,
+        run.rounds(),
+        &copy,
+    )?;
+    Ok(out.into_bytes())
+}
+
+/// The last line of the report of a run, and the count and the sum of its store lines.
+pub fn summary_text(alloc: Global, run: &Run) -> Result<Vec<u8>, NoMemory>
+    requires { IsLegal run.now }
+    ensures { IfOk result (λ text. text.items ≡ summary_of run.now) }
+{
+    commits_are_distinct();
+    let lines = outcomes(alloc, run)?;
+    let head = run.head();
+    let copy = copy_of(alloc, &lines)?;
+    let mut out = String::new(alloc);
+    put_summary(&mut out, alloc, &head.key_names, &lines, &copy)?;
+    Ok(out.into_bytes())
+}

@@ -1,0 +1,42 @@
+//! The report and the summary of a run that was read.
+use mk_report::{report_text, summary_text};
+use mk_run::{Run, Verdict, check};
+use mk_trace::read_trace;
+use std::alloc::Global;
+use std::test::*;
+
+const TRACE: &str =
+    "meerkat-trace 1\nsize 1\nclient a 0\nkey x\nround 1\ncolumn 0\nbegin a.1 0\nstamp a.1 10 x=5\n\
+     validate a.1\ntake 1\nkey 0 x checkwrite 10.1 ok\ntake 4\ntake 2\nkey 1 x checkwrite 10.1 ok\ntake 5\ntake 3\n\
+     key 2 x checkwrite 10.1 ok\ntake 6\nrule a.1\ntake 7\nkey 0 x commitwrite 10.1 5\ntake 8\n\
+     key 1 x commitwrite 10.1 5\ntake 9\nkey 2 x commitwrite 10.1 5\ncell 0 x\n0 checkwrite 10.1 ok\n\
+     0 commitwrite 10.1 5\ncell 1 x\n0 checkwrite 10.1 ok\n0 commitwrite 10.1 5\ncell 2 x\n0 checkwrite 10.1 ok\n\
+     0 commitwrite 10.1 5\nend\n";
+
+fn read(alloc: Global) -> Result<Box<Run>, Fail> {
+    match read_trace(alloc, TRACE.as_bytes()) {
+        Ok(run) => Ok(Box::new(alloc, run)?),
+        Err(_) => Err("the text is no trace".into()),
+    }
+}
+
+/// Whether the run is legal and has this report and this summary.
+fn is_told(alloc: Global, run: &Run, report: &str, summary: &str) -> Result<bool, Fail> {
+    match check(alloc, run)? {
+        Verdict::Legal => {
+            let told = report_text(alloc, run)?;
+            let summed = summary_text(alloc, run)?;
+            Ok(told.as_slice() == report.as_bytes() && summed.as_slice() == summary.as_bytes())
+        }
+        Verdict::Broken { .. } => Ok(false),
+    }
+}
+
+#[test]
+fn a_run_is_told(rt: HostRuntime) -> Result<(), Fail> {
+    let run = read(rt.alloc())?;
+    let report = "a.1 @10.1 commit fast w:x=5\nstore x 10.1 5\nend 1 0 0\n";
+    let summary = "end 1 0 0\nstore 1 5\n";
+    assert!(rt; is_told(rt.alloc(), &run, report, summary)?);
+    Ok(())
+}
