@@ -16,6 +16,7 @@ mod stepping;
 mod tasks;
 mod views;
 
+pub use driving::{next_round_is_left, stands_after_round, stands_after_step, stands_at_first};
 use mk_proc::Item;
 use mk_quorum::Size;
 use mk_script::{Point, TakeoverLine};

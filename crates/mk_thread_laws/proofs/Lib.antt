@@ -1,0 +1,3 @@
+pub mod IndexSets
+pub mod Sending
+pub mod Sharing

@@ -1,0 +1,14 @@
+pub mod PairLaws
+pub mod Matches
+pub mod SeatSteps
+pub mod KeyPlaces
+pub mod Makings
+pub mod Dealings
+pub mod Closings
+pub mod Goings
+pub mod Steppings
+pub mod Turnings
+pub mod Sending
+pub mod Crewing
+pub mod NoEntries
+pub mod Together

@@ -1,0 +1,10 @@
+pub mod ByKey
+pub mod Pairs
+pub mod Seating
+pub mod Going
+pub mod Turns
+pub mod Making
+pub mod Closing
+pub mod Crews
+pub mod Worked
+pub mod Begun
