@@ -1,5 +1,5 @@
 -- Attempts counted in turn.
-use Rattle.std.proofs.Common.{◌≡◌, ◌∙◌, ◌+◌, ◌-◌, ◌<◌, ◌≤◌, ℕ, suc, Bool, true, false, refl, sym, ap, arith, List, [], ◌∷◌, ◌++◌, Option, Some, None, if◌then◌else◌, cond, add_assoc, add-one, length, drop, get_or, drop-cons}
+use Rattle.std.proofs.Common.{◌≡◌, ◌∙◌, ◌+◌, ◌-◌, ◌<◌, ◌≤◌, ℕ, suc, Bool, true, false, refl, sym, ap, arith, List, ◌∷◌, ◌++◌, Option, Some, None, if◌then◌else◌, cond, add_assoc, add-one, length, drop, get_or, drop-cons}
 use Rattle.std.specs.Prelude.{option_map, count_by}
 use Rattle.std.proofs.lemmas.List.Sums.{sum_by-cons, sum_by-append}
 use Rattle.mk_txn.specs.declared.TxnId.{TxnId}
@@ -13,7 +13,7 @@ use Rattle.mk_history.specs.declared.State.TheVariants.{Learned}
 use Rattle.mk_run.specs.declared.firsts.FirstLearning.{FirstLearning}
 use Rattle.mk_run.specs.declared.line.AttemptLine.{AttemptLine}
 use Rattle.mk_run.specs.declared.line.Tally.{Tally}
-use Rattle.mk_run.specs.Attempts.{state_of, attempt_line, line_of, with_line, lines_from, is_committed, is_aborted, is_open, tally_of}
+use Rattle.mk_run.specs.Attempts.{state_of, attempt_line, line_of, with_line, lines_from, is_committed, is_aborted, is_open}
 use Rattle.mk_run.specs.Counting.{total_of, counted, counted_where, plus_lines}
 use Rattle.mk_run.specs.Firsts.{first_in}
 use Rattle.mk_column.specs.ColumnByCode.{ColumnView}

@@ -1,22 +1,21 @@
 -- Lines appended in turn.
-use Rattle.std.proofs.Common.{◌≡◌, ◌∙◌, ◌+◌, ◌-◌, ◌<◌, ◌≤◌, ℕ, suc, refl, sym, ap, arith, List, [], ◌∷◌, ◌++◌, Option, Some, None, append_assoc}
-use Rattle.std.specs.Prelude.{option_map, unwrap_or}
+use Rattle.std.proofs.Common.{◌≡◌, ◌∙◌, ◌+◌, ◌-◌, ◌<◌, ℕ, suc, refl, sym, ap, arith, List, [], ◌∷◌, ◌++◌, Option, Some, None, append_assoc}
+use Rattle.std.specs.Prelude.{option_map}
 use Rattle.std.proofs.lemmas.List.{append-nil}
 use Rattle.std.proofs.lemmas.Option.{same_Some}
 use Rattle.mk_txn.specs.declared.TxnId.{TxnId}
 use Rattle.mk_txn.specs.declared.Outcome.{Outcome}
-use Rattle.mk_model.specs.ColumnState.{ColumnState, AttemptState, ClientState, attempt_of, client_of}
+use Rattle.mk_model.specs.ColumnState.{ColumnState, AttemptState, attempt_of}
 use Rattle.mk_model.proofs.Parts.{attempt_of-id}
 use Rattle.mk_column.specs.declared.Attempt.{Attempt}
 use Rattle.mk_column.specs.ColumnState.{shown}
-use Rattle.mk_column.specs.ColumnByCode.{ColumnView}
 use Rattle.mk_history.specs.declared.Path.{Path}
 use Rattle.mk_history.specs.declared.State.{State}
 use Rattle.mk_run.specs.declared.firsts.FirstLearning.{FirstLearning}
 use Rattle.mk_run.specs.declared.line.AttemptLine.{AttemptLine}
 use Rattle.mk_run.specs.Attempts.{state_of, attempt_line, line_of, with_line, lines_from}
 use Rattle.mk_run.specs.Firsts.{first_in}
-use Rattle.mk_run.specs.Lines.{told_by, first_told, lines_of_client}
+use Rattle.mk_run.specs.Lines.{told_by, first_told}
 
 -- a line that is appended, before the others
 pub line-first : (before : List AttemptLine) (line : Option AttemptLine) (rest : List AttemptLine) → (before ++ with_line line []) ++ rest ≡ before ++ with_line line rest

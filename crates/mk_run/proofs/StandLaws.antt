@@ -80,6 +80,14 @@ judged-broken run rounds round old new judged flawed stays = record {
     by_verdict Legal e = absurd (flawed e)
     by_verdict (Broken number place why) e = stays ∙ e ∙ broken-verdict run rounds round number place why (sym e ∙ judged.verdict)
 
+-- a run has few clients
+pub few-clients : (run : History) (head : Head) → history head run.rounds ≡ run → HasShape run → length head.client_columns ≤ 64
+few-clients run head parts shape =
+    let same : length head.client_columns ≡ length run.client_columns = ap (λ (r : History). length r.client_columns) parts in
+    let few : length run.client_names ≤ 64 = shape.few_clients in
+    let clients : length run.client_names ≡ length run.client_columns = shape.clients in
+    omega (arith, same, few, clients)
+
 -- a judge of whole runs
 pub judged-whole : (judge : JudgeView) (rounds : List RoundLog) → StandsForRounds judge rounds → HasShape (history judge.head rounds) → HasJudged (history judge.head rounds) judge rounds
 judged-whole judge rounds stands shape =

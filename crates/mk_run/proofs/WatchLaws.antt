@@ -1,6 +1,5 @@
 -- A machine that has replayed some rounds, and one round more.
 use Rattle.std.proofs.Common.{◌≡◌, ◌∙◌, ◌==◌, ℕ, refl, sym, ap, subst, List, [], ◌∷◌, ◌++◌, length, map, Option, Some, None, Bool, true, false, not}
-use Rattle.std.proofs.lemmas.List.{length-map}
 use Rattle.std.specs.Prelude.{is_some}
 use Rattle.std.specs.List.{list_any}
 use Rattle.mk_lists.specs.Among.{Each}
@@ -16,8 +15,10 @@ use Rattle.mk_history.specs.Wholes.{WholeState, first_state, state_through, afte
 use Rattle.mk_verdict.specs.declared.PlacedFlaw.{PlacedFlaw}
 use Rattle.mk_verdict.specs.Flaws.{flaw_of_round}
 use Rattle.mk_verdict.proofs.Rounds.{round_is_legal}
-use Rattle.mk_whole.specs.Handing.{states_in}
-use Rattle.mk_whole.specs.Standings.{WholeView, IsOfRun, IsAt, MayReplay}
+use Rattle.mk_words.specs.Bases.{BaseState}
+use Rattle.mk_state.specs.Handing.{states_in}
+use Rattle.mk_state.specs.Standings.{WholeView, IsOfRun, IsAt}
+use Rattle.mk_whole.specs.Standings.{IsItself, MayReplay}
 use Rattle.mk_run.specs.Attempts.{outcomes_of}
 use Rattle.mk_run.specs.Firsts.{StandsForFound, all_noted}
 use Rattle.mk_run.specs.Judging.{WatchView, HasReplayed}
@@ -59,10 +60,10 @@ entered-push entered [] round = refl
 entered-push entered (r ∷ done) round = entered-push (entered_through entered r.globals) done round
 
 -- the round is replayed and has no flaw, and what was learned in it is noted
-pub replayed-next : (run : History) (done : List RoundLog) (round : RoundLog) (old new : WatchView) (mid : WholeView) (known : List ℕ) (lines : List GlobalEntry) →
+pub replayed-next : (run : History) (done : List RoundLog) (round : RoundLog) (old new : WatchView) (mid : WholeView BaseState) (known : List ℕ) (lines : List GlobalEntry) →
     MayReplay run done old.whole round → HasReplayed run old done →
     flaw_of_round run (state_through run (first_state run) done) round ≡ None →
-    IsAt run mid (after_round run round (state_through run (first_state run) done)) → new.whole ≡ mid →
+    IsAt IsItself run mid (after_round run round (state_through run (first_state run) done)) → new.whole ≡ mid →
     known ≡ map known_of old.whole.columns → lines ≡ round.globals →
     new.firsts ≡ all_noted (news_by_lines (told_in (after_round run round (state_through run (first_state run) done)).epochs) old.entered lines) (all_noted (all_news mid.columns known) old.firsts) →
     SameEpochs new.entered (entered_through old.entered lines) → new.client_columns ≡ old.client_columns →
@@ -78,8 +79,8 @@ replayed-next run done round old new mid known lines may was none at whole_is kn
     was.entered
     (round-tells run done round may.legal legal) in
     record {
-      at = subst (λ (w : WholeView). IsAt run w (state_through run (first_state run) (done ++ round ∷ []))) (sym whole_is)
-          (subst (λ (s : WholeState). IsAt run mid s) (sym (state-push run (first_state run) done round)) at);
+      at = subst (λ (w : WholeView BaseState). IsAt IsItself run w (state_through run (first_state run) (done ++ round ∷ []))) (sym whole_is)
+          (subst (λ (s : WholeState). IsAt IsItself run mid s) (sym (state-push run (first_state run) done round)) at);
       firsts = subst (λ fs. StandsForFound fs (found_along run (done ++ round ∷ [])))
           (sym (firsts_are ∙ ap (λ (ls : List GlobalEntry). all_noted (news_by_lines told old.entered ls) (all_noted (all_news mid.columns known) old.firsts)) lines_is)) noted;
       entered = λ epoch.

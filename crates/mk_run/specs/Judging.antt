@@ -11,21 +11,23 @@ use Rattle.mk_verdict.specs.declared.PlacedFlaw.{PlacedFlaw}
 use Rattle.mk_verdict.specs.declared.Verdict.{Verdict}
 use Rattle.mk_verdict.specs.declared.Verdict.TheVariants.{Legal}
 use Rattle.mk_verdict.specs.Flaws.{flaw_of_round, flaw_from}
-use Rattle.mk_whole.specs.Standings.{WholeView, IsAt, MayReplay}
+use Rattle.mk_words.specs.Bases.{BaseState}
+use Rattle.mk_state.specs.Standings.{WholeView, IsAt}
+use Rattle.mk_whole.specs.Standings.{IsItself, MayReplay}
 use Rattle.mk_run.specs.declared.firsts.FirstLearning.{FirstLearning}
 use Rattle.mk_run.specs.Firsts.{StandsForFound}
 use Rattle.mk_run.specs.News.{entered_along, found_along, SameEpochs}
 
 -- the machine, what was learned first, the epochs that were entered, and the columns of the clients
 pub record WatchView : Type 0 where
-  pub whole : WholeView
+  pub whole : WholeView BaseState
   pub firsts : List FirstLearning
   pub entered : List ℕ
   pub client_columns : List ℕ
 
 -- these rounds of the run were replayed, and what was learned in them was noted
 pub record HasReplayed (run : History) (watch : WatchView) (rounds : List RoundLog) : Type 0 where
-  pub at : IsAt run watch.whole (state_through run (first_state run) rounds)
+  pub at : IsAt IsItself run watch.whole (state_through run (first_state run) rounds)
   pub firsts : StandsForFound watch.firsts (found_along run rounds)
   pub entered : SameEpochs watch.entered (entered_along [] rounds)
   pub client_columns : watch.client_columns ≡ run.client_columns

@@ -1,5 +1,5 @@
 //! The judge of runs, which is shown one round after the other and keeps none, and how the attempts of a run ended.
-ghost use Rattle.std.specs.Prelude.{◌≡◌, ◌↔◌, ◌≤◌, ◌∷◌, ◌++◌, [], true, false, List, Option, IfOk, OnOk, OnErr, option_map, unwrap_or};
+ghost use Rattle.std.specs.Prelude.{◌≡◌, ◌↔◌, ◌≤◌, ◌∷◌, ◌++◌, [], true, false, List, length, Option, IfOk, OnOk, OnErr, option_map, unwrap_or};
 ghost use Rattle.mk_history.specs.declared.RoundLog.{RoundLog as Round};
 ghost use Rattle.mk_history.specs.Legality.{IsLegal};
 ghost use Rattle.mk_history.specs.Shape.{HasShape};
@@ -52,9 +52,9 @@ fn verdict(round: u32, flaw: Option<PlacedFlaw>) -> Verdict
 }
 
 impl Judge {
-    /// A judge of runs with this head, which was shown no round.
+    /// A judge of runs with this head, which have at most 64 clients. It was shown no round.
     pub fn new(alloc: Global, head: Head) -> Result<Judge, NoMemory>
-        requires { (rounds : List Round) × HasShape (history head rounds) }
+        requires { length head.client_columns ≤ 64 }
         ensures head { IfOk result (λ judge. judge.head ≡ head) }
         ensures stands { IfOk result (λ judge. StandsForRounds judge []) }
         ensures works { IfOk result (λ judge. judge.failed ≡ false) }

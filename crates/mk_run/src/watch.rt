@@ -1,11 +1,10 @@
 //! The machine that replays rounds, with what was learned first of each attempt.
-ghost use Rattle.std.specs.Prelude.{◌≡◌, [], List, length, IfOk, OnOk};
+ghost use Rattle.std.specs.Prelude.{◌≡◌, ◌≤◌, [], List, length, IfOk, OnOk};
 ghost use Rattle.mk_model.specs.EpochState.{EpochState};
 ghost use Rattle.mk_epoch.specs.Standing.{StandsFor};
 ghost use Rattle.mk_history.specs.declared.RoundLog.{RoundLog as Round};
 ghost use Rattle.mk_history.specs.Histories.{History};
 ghost use Rattle.mk_history.specs.Learning.{entered_through};
-ghost use Rattle.mk_history.specs.Shape.{HasShape};
 ghost use Rattle.mk_kept.specs.Heads.{history};
 ghost use Rattle.mk_whole.specs.Standings.{IsItself, MayReplay};
 ghost use Rattle.mk_run.specs.Attempts.{tally_of};
@@ -20,9 +19,11 @@ use crate::firsts::FirstLearnings;
 use crate::hearing::{counts, note_columns};
 use crate::lines::lines;
 use crate::{AttemptLine, ColumnNumbers, GlobalEntry, Head, RoundLog, Tally};
+use mk_merge::Base;
+use mk_state::Whole;
 use mk_txn::NoMemory;
 use mk_verdict::PlacedFlaw;
-use mk_whole::Whole;
+use mk_whole::replay;
 use std::alloc::Global;
 use std::marker::Model;
 
@@ -30,7 +31,7 @@ use std::marker::Model;
 #[derive(Drop)]
 pub(crate) struct Watch {
     alloc: Global,
-    whole: Whole,
+    whole: Whole<Base>,
     firsts: FirstLearnings,
     entered: Vec<u32>,
     client_columns: ColumnNumbers,
@@ -50,8 +51,8 @@ impl Model for Watch {
 impl Watch {
     /// Before the first round of the head's runs.
     pub(crate) fn new(alloc: Global, head: &Head) -> Result<Watch, NoMemory>
-        requires { (rounds : List Round) × HasShape (history head.now rounds) }
-        ensures { IfOk result (λ watch. (rounds : List Round) → HasShape (history head.now rounds) → HasReplayed (history head.now rounds) watch []) }
+        requires { length head.now.client_columns ≤ 64 }
+        ensures { IfOk result (λ watch. (rounds : List Round) → HasReplayed (history head.now rounds) watch []) }
     {
         Ok(Watch {
             alloc,
@@ -68,7 +69,7 @@ impl Watch {
         ensures { IfOk result (λ flaw. IsReplayed self.old round.now flaw self.new) }
     {
         let known = counts(self.alloc, self.whole.columns())?;
-        let flaw = self.whole.replay(round)?;
+        let flaw = replay(&mut self.whole, round)?;
         if flaw.is_none() {
             self.learn(known.as_slice(), round.globals.as_slice())?;
         }

@@ -7,16 +7,9 @@ pub mod Linking
 pub mod TurnLaws
 pub mod RoundLinks
 pub mod TableLaws
-pub mod StartLaws
-pub mod HandLaws
 pub mod WorkLaws
-pub mod FirstLaws
 pub mod LineFacts
-pub mod Restarting
-pub mod LineLaws
 pub mod LinesInTurn
 pub mod Allowing
 pub mod RoundReplay
 pub mod RoundEnds
-pub mod ViewLaws
-pub mod ReplicaCount

@@ -1,65 +1,15 @@
--- Numbers of global lines in range, and answers that are refusals.
-use Rattle.std.proofs.Common.{inl, inr, ◌≡◌, ◌<◌, ◌≤◌, ℕ, Bool, true, false, ◌&&◌, refl, sym, subst, arith, Some, None}
-use Rattle.std.specs.Prelude.{◌||◌, nat_lt, nat_le, Result, Ok, Err, is_ok, IfErr}
-use Rattle.std.proofs.lemmas.Bool.{and_parts}
-use Rattle.std.proofs.lemmas.Bool.Decides.{nat_tests}
-use Rattle.mk_words.specs.Lines.{is_epoch}
+-- Where a line that writes a word can fail at it.
+use Rattle.std.proofs.Common.{◌≡◌, Bool, true, false, ◌&&◌, refl, sym, subst, Some}
+use Rattle.std.specs.Prelude.{◌||◌, Result, Ok, Err, is_ok, IfErr}
 use Rattle.mk_words.specs.declared.GlobalLine.{GlobalLine}
 use Rattle.mk_words.specs.declared.GlobalAnswer.{GlobalAnswer}
 use Rattle.mk_words.specs.declared.GlobalAnswer.TheVariants.{Ok as Done, Unasked as NobodyAsked, Unmade as NoneMade, Lacking as LacksState, Old as TooOld, WordFault as WordFailed, Short as TooFew}
 use Rattle.mk_model.specs.EpochState.{EpochState}
-use Rattle.mk_model.specs.GlobalAnswers.{global_answer, is_accepted, writes_word}
-use Rattle.mk_model.specs.GlobalSteps.{IsAnswer}
+use Rattle.mk_model.specs.GlobalAnswers.{global_answer, writes_word}
 use Rattle.mk_epoch.specs.declared.EpochError.{EpochError}
 use Rattle.mk_epoch.specs.declared.EpochError.TheVariants.{Unasked, Unmade, Lacking, Old, WordFault, Short, NoMemory}
 use Rattle.mk_epoch.specs.Standing.{refusal_of, IsEarly, told, done}
-use Rattle.mk_epoch.specs.Words.{IsWritten}
 use Rattle.mk_verdict.specs.Sameness.{same_global, may_answer}
-
-pub replica-below : (n r : ℕ) → nat_lt r n ≡ true → r < n
-replica-below n r e = grind (arith, nat_tests)
-
-pub epoch-within : (epoch : ℕ) → is_epoch epoch ≡ true → (1 ≤ epoch) × (epoch ≤ 1000)
-epoch-within epoch e =
-    let both = and_parts (nat_le 1 epoch) (nat_le epoch 1000) e in
-    let low : nat_le 1 epoch ≡ true = both.0 in
-    let high : nat_le epoch 1000 ≡ true = both.1 in
-    (grind (arith, nat_tests, low), grind (arith, nat_tests, high))
-
-pub both-within : (n epoch r : ℕ) → (is_epoch epoch && nat_lt r n) ≡ true → ((1 ≤ epoch) × (epoch ≤ 1000)) × (r < n)
-both-within n epoch r e =
-    let both = and_parts (is_epoch epoch) (nat_lt r n) e in
-    (epoch-within epoch both.0, replica-below n r both.1)
-
-refused_as : (one answer : GlobalAnswer) → Some one ≡ Some answer → is_accepted one ≡ false → is_accepted answer ≡ false
-refused_as one answer e out = let same : one ≡ answer = cc in subst (λ (a : GlobalAnswer). is_accepted a ≡ false) same out
-
--- a refusal is not accepted
-pub refused : (error : EpochError) (answer : GlobalAnswer) → refusal_of error ≡ Some answer → is_accepted answer ≡ false
-refused Unasked answer e = refused_as NobodyAsked answer e refl
-refused Unmade answer e = refused_as NoneMade answer e refl
-refused Lacking answer e = refused_as LacksState answer e refl
-refused (Old word) answer e = refused_as (TooOld word) answer e refl
-refused WordFault answer e = refused_as WordFailed answer e refl
-refused (Short count) answer e = refused_as (TooFew count) answer e refl
-refused NoMemory answer e = absurd (cc)
-
--- a word of which no set fails gives no fault
-pub no_fault : (X : Type 0) (epoch old new : ℕ) (error : EpochError) (answer : GlobalAnswer) → refusal_of error ≡ Some answer →
-    IsWritten {X = X} (λ (w : ℕ). w) (λ _. None) (λ _. 0) epoch old new (Err error) → answer ≡ WordFailed → ⊥
-no_fault X epoch old new Unasked answer e written fault = cc
-no_fault X epoch old new Unmade answer e written fault = cc
-no_fault X epoch old new Lacking answer e written fault = cc
-no_fault X epoch old new (Old word) answer e written fault = cc
-no_fault X epoch old new WordFault answer e written fault = omega (arith, written.2)
-no_fault X epoch old new (Short count) answer e written fault = cc
-no_fault X epoch old new NoMemory answer e written fault = cc
-
--- an answer that is no fault is the one that the state gives
-pub told-exactly : (state : EpochState) (line : GlobalLine) (answer : GlobalAnswer) → IsAnswer state line answer → (answer ≡ WordFailed → writes_word line ≡ true → ⊥) →
-    answer ≡ global_answer state line
-told-exactly state line answer (inl same) sure = same
-told-exactly state line answer (inr fault) sure = absurd (sure fault.0 fault.1)
 
 -- an early refusal is neither a fault nor done
 refusal-is : (one answer : GlobalAnswer) → Some one ≡ Some answer → same_global WordFailed one ≡ false → same_global one Done ≡ false →

@@ -1,14 +1,11 @@
 -- A log replayed, as far as one has come.
-use Rattle.std.proofs.Common.{◌≡◌, ◌<◌, ◌≤◌, ℕ, ◌+◌, true, false, refl, sym, ap, subst, ◌∙◌, arith, List, [], ◌∷◌, ◌++◌, length, map, drop, get_or, append_assoc, Option, Some, None, if◌then◌else◌}
+use Rattle.std.proofs.Common.{◌≡◌, ◌<◌, ◌≤◌, ℕ, ◌+◌, true, false, sym, ap, subst, ◌∙◌, arith, List, [], ◌∷◌, ◌++◌, length, map, drop, get_or, append_assoc, Option, None, if◌then◌else◌}
 use Rattle.std.specs.Prelude.{is_none, is_some}
 use Rattle.std.proofs.lemmas.List.{drop_all, append-nil, length-map}
 use Rattle.mk_lists.proofs.Places.{drop_read}
 use Rattle.mk_words.specs.declared.JournalEntry.{JournalEntry}
 use Rattle.mk_words.specs.declared.Step.{Step}
-use Rattle.mk_words.specs.declared.KeyCall.{KeyCall}
-use Rattle.mk_model.specs.ColumnState.{Work}
-use Rattle.mk_model.specs.ColumnState.Work.{Idle, Fetching, Validating, Finishing}
-use Rattle.mk_model.specs.Conditions.{blocked, is_idle, wanted}
+use Rattle.mk_model.specs.Conditions.{blocked, is_idle}
 use Rattle.mk_model.specs.Logs.{column_through}
 use Rattle.mk_model.specs.Steps.{column_after}
 use Rattle.mk_column.specs.ColumnByCode.{ColumnView}

@@ -1,12 +1,8 @@
 -- A round that is replayed: its beginning, its work, its global lines, and its end.
 use Rattle.std.proofs.Common.{inl, ◌≡◌, ◌≤◌, ℕ, ◌+◌, suc, true, refl, sym, ap, subst, ◌∙◌, arith, List, [], ◌∷◌, ◌++◌, length, map, Option, Some, None}
-use Rattle.std.specs.Prelude.{is_some, Result, OnOk}
-use Rattle.std.proofs.lemmas.Result.{on_ok_weaker}
-use Rattle.mk_txn.specs.declared.NoMemory.{NoMemory}
+use Rattle.std.specs.Prelude.{is_some}
 use Rattle.std.specs.Option.{option_or}
-use Rattle.mk_lists.specs.Among.{Each, Each-weaker, Each-among, Among-append_right}
-use Rattle.mk_quorum.specs.Sizes.{members}
-use Rattle.mk_trim.specs.declared.ReplicaView.{ReplicaView}
+use Rattle.mk_lists.specs.Among.{Each, Each-among, Among-append_right}
 use Rattle.mk_words.specs.Cells.{CellState}
 use Rattle.mk_words.specs.declared.GlobalEntry.{GlobalEntry}
 use Rattle.mk_words.specs.declared.JournalEntry.{JournalEntry}
@@ -14,86 +10,29 @@ use Rattle.mk_words.specs.declared.Step.{Step}
 use Rattle.mk_model.specs.ColumnState.{ColumnState}
 use Rattle.mk_model.specs.ColumnState.Work.{Idle}
 use Rattle.mk_model.specs.Conditions.{wanted}
-use Rattle.mk_model.specs.EpochState.{views_of}
 use Rattle.mk_model.specs.Logs.{column_through, reading_ended}
 use Rattle.mk_column.specs.ColumnByCode.{ColumnView}
 use Rattle.mk_history.specs.declared.RoundLog.{RoundLog}
 use Rattle.mk_history.specs.Histories.{History}
 use Rattle.mk_history.specs.Shape.{HasShape, IsRoundShape}
 use Rattle.mk_history.specs.Legality.{EachRoundLegal, EachGlobalAnswered, IsLegalRound}
-use Rattle.mk_history.specs.Wholes.{WholeState, first_state, setting_of, state_through, after_logs, after_round, globals_through}
+use Rattle.mk_history.specs.Wholes.{WholeState, first_state, state_through, after_logs, after_round, globals_through}
 use Rattle.mk_run_laws.specs.Cuts.{cut_round}
 use Rattle.mk_replay_laws.specs.AtLines.{LinesAreReady}
 use Rattle.mk_verdict.specs.declared.PlacedFlaw.{PlacedFlaw}
 use Rattle.mk_verdict.specs.Flaws.{flaw_of_logs, flaw_of_journals, flaw_of_matches, flaw_of_globals, flaw_of_round}
 use Rattle.mk_verdict.proofs.FirstFacts.{option_or-none, option_or-none_from}
 use Rattle.mk_verdict.proofs.Rounds.{log_replays, round_is_legal, globals_have_no_flaw}
-use Rattle.mk_whole.specs.Beginning.{column_begun}
-use Rattle.mk_whole.specs.Handing.{states_in}
 use Rattle.mk_whole.specs.Journals.{keys_done}
 use Rattle.mk_whole.specs.Logs.{flaw_in_column, column_done}
 use Rattle.mk_whole.specs.Pairs.{each_done, first_in}
-use Rattle.mk_whole.specs.Standings.{WholeView, IsOfRun, IsAt, IsWithin, IsBegun, MayReplay, LinesMayBeDone}
+use Rattle.mk_words.specs.Bases.{BaseState}
+use Rattle.mk_state.specs.Handing.{numbers_in}
+use Rattle.mk_state.specs.Standings.{WholeView, IsOfRun, IsAt, IsWithin, IsBegun}
+use Rattle.mk_whole.specs.Standings.{MayReplay, LinesMayBeDone, IsItself}
 use Rattle.mk_whole.specs.Working.{MayWork, flaw_of_work}
 use Rattle.mk_whole.proofs.PairLaws.{or-some}
 use Rattle.mk_whole.proofs.WorkLaws.{work-logs, work-columns, work-cells}
-
--- ---- its beginning
-
-columns-begun : (views : List ReplicaView) (columns : List ColumnView) → states_in (map (column_begun views) columns) ≡ map reading_ended (states_in columns)
-columns-begun views [] = refl
-columns-begun views (column ∷ columns) = ap (λ rest. reading_ended column.state ∷ rest) (columns-begun views columns)
-
-count-begun : (views : List ReplicaView) (columns : List ColumnView) → length (map (column_begun views) columns) ≡ length columns
-count-begun views [] = refl
-count-begun views (column ∷ columns) = ap suc (count-begun views columns)
-
-of_run-begun : (run : History) (views : List ReplicaView) (columns : List ColumnView) → Each (IsOfRun run) columns → Each (IsOfRun run) (map (column_begun views) columns)
-of_run-begun run views [] h = tt
-of_run-begun run views (column ∷ columns) h =
-    (record { version = h.0.version; faults = h.0.faults; keys = h.0.keys; idle = h.0.idle }, of_run-begun run views columns h.1)
-
-setting-begun : (run : History) (state : WholeState) (views : List ReplicaView) (column : ColumnView) → views ≡ views_of state.epochs → IsOfRun run column →
-    (column_begun views column).setting ≡ setting_of run state
-setting-begun run state views column seen h =
-    let version : column.setting.version ≡ run.version = h.version in
-    let faults : column.setting.faults ≡ run.faults = h.faults in
-    let keys : column.setting.keys ≡ length run.key_names = h.keys in
-    cc
-
-settings-begun : (run : History) (state : WholeState) (views : List ReplicaView) (columns : List ColumnView) → views ≡ views_of state.epochs → Each (IsOfRun run) columns →
-    Each (λ column. column.setting ≡ setting_of run state) (map (column_begun views) columns)
-settings-begun run state views [] seen h = tt
-settings-begun run state views (column ∷ columns) seen h =
-    (setting-begun run state views column seen h.0, settings-begun run state views columns seen h.1)
-
-pub round-begun : (run : History) (state : WholeState) (old : WholeView) (views : List ReplicaView) → views ≡ views_of state.epochs → IsAt run old state →
-    IsBegun run (record old { columns = map (column_begun views) old.columns }) state
-round-begun run state old views seen at =
-    let sizes = at.sizes in
-    record {
-      within = record {
-        sizes = record {
-          faults = sizes.faults;
-          keys = sizes.keys;
-          changes = sizes.changes;
-          columns = count-begun views old.columns ∙ sizes.columns;
-          each = of_run-begun run views old.columns sizes.each;
-          replicas = sizes.replicas;
-          rows = sizes.rows;
-        };
-        columns = columns-begun views old.columns ∙ at.columns;
-        cells = at.cells;
-        epochs = at.epochs;
-      };
-      settings = settings-begun run state views old.columns seen sizes.each;
-    }
-
--- what columns ask of the views
-pub views-fit : (run : History) (views : List ReplicaView) (columns : List ColumnView) → length views ≡ members run.faults → Each (IsOfRun run) columns →
-    Each (λ column. length views ≡ members column.setting.faults) columns
-views-fit run views columns count each =
-    Each-weaker (IsOfRun run) (λ column. length views ≡ members column.setting.faults) (λ column h. count ∙ ap members (sym h.faults)) columns each
 
 -- ---- its work
 
@@ -103,7 +42,7 @@ round-shape run done rest round shape is =
     let each : Each (IsRoundShape run) (done ++ round ∷ rest) = subst (λ (rounds : List RoundLog). Each (IsRoundShape run) rounds) is shape.rounds in
     Each-among (IsRoundShape run) round (done ++ round ∷ rest) each (Among-append_right round done (round ∷ rest) (inl refl))
 
-pub may-work : (run : History) (state : WholeState) (whole : WholeView) (round : RoundLog) → HasShape run → IsRoundShape run round → IsBegun run whole state →
+pub may-work : (run : History) (state : WholeState) (whole : WholeView BaseState) (round : RoundLog) → HasShape run → IsRoundShape run round → IsBegun IsItself run whole state →
     MayWork run state whole.faults whole.keys whole.columns whole.cells round
 may-work run state whole round shape fits begun =
     let sizes = begun.within.sizes in
@@ -127,6 +66,11 @@ count-done f [] ys = refl
 count-done f (x ∷ xs) [] = refl
 count-done f (x ∷ xs) (y ∷ ys) = ap suc (count-done f xs ys)
 
+numbers-done : (columns : List ColumnView) (logs : List (List Step)) → numbers_in (each_done column_done columns logs) ≡ numbers_in columns
+numbers-done [] logs = refl
+numbers-done (column ∷ columns) [] = refl
+numbers-done (column ∷ columns) (log ∷ logs) = ap (λ (rest : List ℕ). column.number ∷ rest) (numbers-done columns logs)
+
 rows-done : (keys : ℕ) (rows : List (List CellState)) (journals : List (List (List JournalEntry))) → Each (λ row. length row ≡ keys) rows →
     Each (λ row. length row ≡ keys) (each_done keys_done rows journals)
 rows-done keys [] journals h = tt
@@ -144,9 +88,9 @@ of_run-done run c (column ∷ columns) (log ∷ logs) h e =
     (record { version = h.0.version; faults = h.0.faults; keys = h.0.keys; idle = ap wanted finished }, of_run-done run (c + 1) columns logs h.1 both.1)
 
 -- what is kept behind the round's work
-pub work-within : (run : History) (state : WholeState) (whole : WholeView) (round : RoundLog) → IsBegun run whole state →
+pub work-within : (run : History) (state : WholeState) (whole : WholeView BaseState) (round : RoundLog) → IsBegun IsItself run whole state →
     MayWork run state whole.faults whole.keys whole.columns whole.cells round → flaw_of_work run state round ≡ None →
-    IsWithin run (record whole { columns = each_done column_done whole.columns round.logs; cells = each_done keys_done whole.cells round.journals }) (after_logs run round state)
+    IsWithin IsItself run (record whole { columns = each_done column_done whole.columns round.logs; cells = each_done keys_done whole.cells round.journals }) (after_logs run round state)
 work-within run state whole round begun may none =
     let sizes = begun.within.sizes in
     let parts = option_or-none (flaw_of_logs run state round) (option_or (flaw_of_journals run state round) (flaw_of_matches run round)) none in
@@ -157,6 +101,7 @@ work-within run state whole round begun may none =
         keys = sizes.keys;
         changes = sizes.changes;
         columns = count-done column_done whole.columns round.logs ∙ sizes.columns;
+        numbers = numbers-done whole.columns round.logs ∙ sizes.numbers;
         each = of_run-done run 0 whole.columns round.logs sizes.each no_log;
         replicas = count-done keys_done whole.cells round.journals ∙ sizes.replicas;
         rows = rows-done (length run.key_names) whole.cells round.journals sizes.rows;
@@ -164,6 +109,7 @@ work-within run state whole round begun may none =
       columns = work-columns run state whole.faults whole.keys whole.columns whole.cells round may;
       cells = work-cells run state whole.faults whole.keys whole.columns whole.cells round may;
       epochs = begun.within.epochs;
+      count = begun.within.count;
     }
 
 -- ---- its global lines
@@ -188,9 +134,9 @@ cut-legal run state round lines none answered =
     ∙ option_or-none_from (flaw_of_work run state round) (flaw_of_globals run (after_logs run round state) 1 lines) none
     (globals_have_no_flaw run (after_logs run round state) 1 lines answered))
 
-pub lines-may : (run : History) (done rest : List RoundLog) (whole : WholeView) (round : RoundLog) → LinesAreReady → HasShape run → run.rounds ≡ done ++ round ∷ rest →
+pub lines-may : (run : History) (done rest : List RoundLog) (whole : WholeView BaseState) (round : RoundLog) → LinesAreReady → HasShape run → run.rounds ≡ done ++ round ∷ rest →
     EachRoundLegal run (first_state run) done → flaw_of_work run (state_through run (first_state run) done) round ≡ None →
-    IsWithin run whole (after_logs run round (state_through run (first_state run) done)) →
+    IsWithin IsItself run whole (after_logs run round (state_through run (first_state run) done)) →
     LinesMayBeDone run (after_logs run round (state_through run (first_state run) done)) whole round.globals
 lines-may run done rest whole round law shape is legal none within =
     record {
@@ -213,17 +159,18 @@ flaw-late run state round o none is =
 
 -- ---- its end
 
-pub round-over : (run : History) (state : WholeState) (whole : WholeView) (round : RoundLog) → IsWithin run whole (globals_through run (after_logs run round state) round.globals) →
-    IsAt run whole (after_round run round state)
+pub round-over : (run : History) (state : WholeState) (whole : WholeView BaseState) (round : RoundLog) → IsWithin IsItself run whole (globals_through run (after_logs run round state) round.globals) →
+    IsAt IsItself run whole (after_round run round state)
 round-over run state whole round within =
     record {
       sizes = within.sizes;
       columns = ap (λ (columns : List ColumnState). map reading_ended columns) within.columns;
       cells = within.cells;
       epochs = within.epochs;
+      count = within.count;
     }
 
-pub shape-of : (run : History) (done : List RoundLog) (whole : WholeView) (round : RoundLog) → MayReplay run done whole round → IsRoundShape run round
+pub shape-of : (run : History) (done : List RoundLog) (whole : WholeView BaseState) (round : RoundLog) → MayReplay run done whole round → IsRoundShape run round
 shape-of run done whole round may = round-shape run done may.rest round may.shape may.rounds
 
 -- ---- all of it
@@ -231,31 +178,17 @@ shape-of run done whole round may = round-shape run done may.rest round may.shap
 abbrev pub state_at : History → List RoundLog → WholeState
 state_at run done = state_through run (first_state run) done
 
-pub work-may : (run : History) (done : List RoundLog) (start old : WholeView) (round : RoundLog) → MayReplay run done start round → IsBegun run old (state_at run done) →
+pub work-may : (run : History) (done : List RoundLog) (start old : WholeView BaseState) (round : RoundLog) → MayReplay run done start round → IsBegun IsItself run old (state_at run done) →
     MayWork run (state_at run done) old.faults old.keys old.columns old.cells round
 work-may run done start old round may begun = may-work run (state_at run done) old round may.shape (shape-of run done start round may) begun
 
-pub globals-may : (run : History) (done : List RoundLog) (start old : WholeView) (round : RoundLog) (columns : List ColumnView) (cells : List (List CellState)) → LinesAreReady →
-    MayReplay run done start round → IsBegun run old (state_at run done) → flaw_of_work run (state_at run done) round ≡ None →
+pub globals-may : (run : History) (done : List RoundLog) (start old : WholeView BaseState) (round : RoundLog) (columns : List ColumnView) (cells : List (List CellState)) → LinesAreReady →
+    MayReplay run done start round → IsBegun IsItself run old (state_at run done) → flaw_of_work run (state_at run done) round ≡ None →
     columns ≡ each_done column_done old.columns round.logs → cells ≡ each_done keys_done old.cells round.journals →
     LinesMayBeDone run (after_logs run round (state_at run done)) (record old { columns = columns; cells = cells }) round.globals
 globals-may run done start old round columns cells law may begun none columns_are cells_are =
     let state = state_at run done in
     let within = work-within run state old round begun (work-may run done start old round may begun) none in
-    let first = subst (λ (cs : List ColumnView). IsWithin run (record old { columns = cs; cells = each_done keys_done old.cells round.journals }) (after_logs run round state)) (sym columns_are) within in
-    let both = subst (λ (rows : List (List CellState)). IsWithin run (record old { columns = columns; cells = rows }) (after_logs run round state)) (sym cells_are) first in
+    let first = subst (λ (cs : List ColumnView). IsWithin IsItself run (record old { columns = cs; cells = each_done keys_done old.cells round.journals }) (after_logs run round state)) (sym columns_are) within in
+    let both = subst (λ (rows : List (List CellState)). IsWithin IsItself run (record old { columns = columns; cells = rows }) (after_logs run round state)) (sym cells_are) first in
     lines-may run done may.rest (record old { columns = columns; cells = cells }) round law may.shape may.rounds may.legal none both
-
--- what the beginning of a round promises
-abbrev pub Begins : WholeView → WholeView → Type 0
-Begins old new = (run : History) (done : List RoundLog) (round : RoundLog) → MayReplay run done old round → IsBegun run new (state_at run done)
-
-pub begun-on : (r : Result (Unit {0}) NoMemory) (old now : WholeView) (columns : List ColumnView) (views : List ReplicaView) → old ≡ now →
-    OnOk r (columns ≡ map (column_begun views) old.columns) →
-    ((run : History) (done : List RoundLog) (round : RoundLog) → MayReplay run done old round → views ≡ views_of (state_at run done).epochs) → OnOk r (Begins now (record old { columns = columns }))
-begun-on r old now columns views is ok seen =
-    on_ok_weaker {P = columns ≡ map (column_begun views) old.columns} {Q = Begins now (record old { columns = columns })} r
-    (λ e run done round may.
-    let m = subst (λ (v : WholeView). MayReplay run done v round) (sym is) may in
-    subst (λ (cs : List ColumnView). IsBegun run (record old { columns = cs }) (state_at run done)) (sym e) (round-begun run (state_at run done) old views (seen run done round m) m.at))
-    ok

@@ -1,16 +1,12 @@
 -- The cells of a round, each with its journal.
-use Rattle.std.specs.Prelude.{◌≡◌, ◌≤◌, ℕ, List, map, length, Option}
+use Rattle.std.specs.Prelude.{◌≡◌, ◌≤◌, ℕ, List, length, Option}
 use Rattle.mk_lists.specs.Among.{Each}
-use Rattle.mk_words.specs.Cells.{CellState, CellView}
+use Rattle.mk_words.specs.Cells.{CellState}
 use Rattle.mk_words.specs.Journals.{cell_through}
 use Rattle.mk_words.specs.declared.JournalEntry.{JournalEntry}
 use Rattle.mk_verdict.specs.declared.PlacedFlaw.{PlacedFlaw}
 use Rattle.mk_verdict.specs.Flaws.{flaw_of_journal}
 use Rattle.mk_whole.specs.Pairs.{each_done, first_in}
-
--- what cells are, whatever room they have
-abbrev pub states_of : List CellView → List CellState
-states_of cells = map (λ cell. cell.state) cells
 
 -- the flaw of the journal of this key at this replica
 abbrev pub flaw_at_key : ℕ → ℕ → CellState → List JournalEntry → Option PlacedFlaw

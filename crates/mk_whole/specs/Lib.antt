@@ -4,8 +4,5 @@ pub mod Turns
 pub mod Journals
 pub mod Matches
 pub mod Logs
-pub mod Starting
-pub mod Handing
-pub mod Beginning
 pub mod Working
 pub mod Standings

@@ -5,7 +5,8 @@ ghost use Rattle.mk_words.specs.Journals.{cell_through};
 ghost use Rattle.mk_verdict.specs.Flaws.{flaw_of_journal};
 ghost use Rattle.mk_verdict.specs.Sameness.{same_answer};
 ghost use Rattle.mk_whole.specs.Pairs.{each_done, first_in};
-ghost use Rattle.mk_whole.specs.Journals.{states_of, flaw_at_replica, keys_done, AreEven};
+ghost use Rattle.mk_state.specs.Cells.{states_of};
+ghost use Rattle.mk_whole.specs.Journals.{flaw_at_replica, keys_done, AreEven};
 
 use crate::{Flaw, JournalEntry, Place, PlacedFlaw};
 use mk_cell::Cell;

@@ -1,17 +1,14 @@
-//! The machine that replays the rounds of a run.
+//! The rounds of a run replayed.
 #![tactic(auto)]
 
-mod beginning;
 mod globals;
-mod handing;
 mod journals;
 mod logs;
 mod matching;
-mod starting;
+mod replaying;
 mod turns;
-mod whole;
 mod working;
 
 pub use mk_verdict::{Flaw, Place, PlacedFlaw};
 pub use mk_words::{GlobalAnswer, GlobalEntry, GlobalLine, JournalEntry, Step};
-pub use whole::Whole;
+pub use replaying::replay;

@@ -4,7 +4,8 @@ ghost use Rattle.mk_history.specs.Histories.{History};
 ghost use Rattle.mk_history.specs.Wholes.{WholeState};
 ghost use Rattle.mk_whole.specs.Pairs.{each_done};
 ghost use Rattle.mk_whole.specs.Logs.{column_done};
-ghost use Rattle.mk_whole.specs.Journals.{states_of, keys_done};
+ghost use Rattle.mk_state.specs.Cells.{states_of};
+ghost use Rattle.mk_whole.specs.Journals.{keys_done};
 ghost use Rattle.mk_whole.specs.Working.{MayWork, flaw_of_work};
 
 use crate::PlacedFlaw;

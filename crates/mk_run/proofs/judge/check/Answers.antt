@@ -1,8 +1,12 @@
 use Rattle.std.proofs.Common.{◌∙◌, ap, sym, take, arith}
 use Rattle.mk_kept.specs.declared.head.Head.{Head}
 use Rattle.mk_kept.specs.Heads.{history}
-use Rattle.mk_run.proofs.StandLaws.{may-take, stands-next, whole-verdict}
+use Rattle.mk_run.proofs.StandLaws.{few-clients, may-take, stands-next, whole-verdict}
 use Rattle.mk_run.proofs.judge.check.Goals as goal
+
+pub new-requires : goal.new-requires
+new-requires c =
+    few-clients c.args.run.now c.in_ok-copy.field-0 (ap (λ (h : Head). history h c.args.run.now.rounds) c.in_ok-copy.ensures ∙ c.head.ensures.parts) c.head.ensures.shape
 
 pub take_round-requires : goal.take_round-requires
 take_round-requires c =

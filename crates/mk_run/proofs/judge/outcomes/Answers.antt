@@ -1,9 +1,12 @@
 use Rattle.std.proofs.Common.{◌∙◌, subst, take, arith, List}
 use Rattle.mk_history.specs.declared.RoundLog.{RoundLog}
 use Rattle.mk_run.specs.Judging.{HasReplayed}
-use Rattle.mk_run.proofs.StandLaws.{if_ok, may-replay, replayed-more, taken-all}
+use Rattle.mk_run.proofs.StandLaws.{if_ok, few-clients, may-replay, replayed-more, taken-all}
 use Rattle.mk_run.proofs.WatchLaws.{outcomes-left}
 use Rattle.mk_run.proofs.judge.outcomes.Goals as goal
+
+pub new-requires : goal.new-requires
+new-requires c = few-clients c.args.run.now c.head.result.now c.head.ensures.parts c.head.ensures.shape
 
 pub replay-requires : goal.replay-requires
 replay-requires c =

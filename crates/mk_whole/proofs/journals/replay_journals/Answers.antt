@@ -1,6 +1,7 @@
 use Rattle.std.proofs.Common.{◌≡◌, ◌≤◌, sym, ◌∙◌, ap, arith, map, length}
 use Rattle.std.proofs.lemmas.List.{length-map}
-use Rattle.mk_whole.specs.Journals.{states_of, flaw_at_replica, keys_done}
+use Rattle.mk_state.specs.Cells.{states_of}
+use Rattle.mk_whole.specs.Journals.{flaw_at_replica, keys_done}
 use Rattle.mk_whole.proofs.PairLaws.{views-found, views-more, views-here, mapped-at}
 use Rattle.mk_whole.proofs.RowLaws.{row_few, row_same}
 use Rattle.mk_whole.proofs.journals.replay_journals.Goals as goal

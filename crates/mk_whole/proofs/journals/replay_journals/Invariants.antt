@@ -1,6 +1,7 @@
 -- The journals so far are done.
 use Rattle.std.proofs.Common.{map}
-use Rattle.mk_whole.specs.Journals.{states_of, flaw_at_replica, keys_done}
+use Rattle.mk_state.specs.Cells.{states_of}
+use Rattle.mk_whole.specs.Journals.{flaw_at_replica, keys_done}
 use Rattle.mk_whole.proofs.PairLaws.{PairsSoFar}
 use Rattle.mk_whole.proofs.journals.replay_journals.Given as goal
 

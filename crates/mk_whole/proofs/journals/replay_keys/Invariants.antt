@@ -1,7 +1,8 @@
 -- The journals so far are done.
 use Rattle.std.proofs.Common.{map}
 use Rattle.mk_words.specs.Journals.{cell_through}
-use Rattle.mk_whole.specs.Journals.{states_of, flaw_at_key}
+use Rattle.mk_state.specs.Cells.{states_of}
+use Rattle.mk_whole.specs.Journals.{flaw_at_key}
 use Rattle.mk_whole.proofs.PairLaws.{PairsSoFar}
 use Rattle.mk_whole.proofs.journals.replay_keys.Given as goal
 

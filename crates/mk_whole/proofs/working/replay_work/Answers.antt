@@ -9,7 +9,8 @@ use Rattle.mk_verdict.specs.Flaws.{flaw_of_logs, flaw_of_journals, flaw_of_match
 use Rattle.mk_whole.specs.Pairs.{first_in}
 use Rattle.mk_whole.specs.Turns.{after_all_steps}
 use Rattle.mk_whole.specs.Logs.{flaw_in_column}
-use Rattle.mk_whole.specs.Journals.{states_of, flaw_at_replica, AreEven}
+use Rattle.mk_state.specs.Cells.{states_of}
+use Rattle.mk_whole.specs.Journals.{flaw_at_replica, AreEven}
 use Rattle.mk_whole.proofs.PairLaws.{none-not_some}
 use Rattle.mk_whole.proofs.WorkLaws.{work-logs, work-journals, matches-by, work-even, flaw-first, flaw-second, flaw-third, rows-few}
 use Rattle.mk_whole.proofs.working.replay_work.Goals as goal

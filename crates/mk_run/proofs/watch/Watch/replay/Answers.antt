@@ -19,7 +19,7 @@ returns c =
                 let ended = after_round run round (state_through run (first_state run) done) in
                 let at = c.in_ok-flaw.ensures.after none run done may in
                 subst (λ (v : WatchView). HasReplayed run v _) (sym w.self-is)
-                (replayed-next run done round old w.learn.new.self c.replay.new.self w.as_slice.result.now w.as_slice-then-is_none.result.now may was
+                (replayed-next run done round old w.learn.new.self c.replay.new.whole w.as_slice.result.now w.as_slice-then-is_none.result.now may was
                 (sym (c.in_ok-flaw.ensures.flaw run done may) ∙ none) at w.learn.ensures.whole
                 (w.as_slice.ensures.value ∙ c.in_ok-known.ensures ∙ ap (map known_of) c.columns.ensures) w.as_slice-then-is_none.ensures
                 (w.in_ok-learn.ensures.firsts ended.epochs at.epochs) w.in_ok-learn.ensures.entered w.learn.ensures.columns)

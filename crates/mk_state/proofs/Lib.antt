@@ -1,0 +1,10 @@
+pub mod StartLaws
+pub mod FirstLaws
+pub mod HandLaws
+pub mod ViewLaws
+pub mod ReplicaCount
+pub mod BeginLaws
+pub mod LineFacts
+pub mod Restarting
+pub mod LineLaws
+pub mod WordLaws

@@ -1,9 +1,0 @@
--- The replicas so far are seen.
-use Rattle.std.proofs.Common.{◌≡◌, take}
-use Rattle.mk_model.specs.EpochState.{EpochState, views_of}
-use Rattle.mk_epoch.specs.Standing.{StandsFor}
-use Rattle.mk_whole.specs.Standings.{IsItself}
-use Rattle.mk_whole.proofs.whole.views.Given as goal
-
-abbrev pub invariant-loop-replica : goal.invariant-loop-replica
-invariant-loop-replica l = (state : EpochState) → StandsFor IsItself l.replicas state → l.views.items ≡ take l.replica (views_of state)
