@@ -1,0 +1,3 @@
+pub mod AnyRounds
+pub mod RoundLaws
+pub mod CountLaws
