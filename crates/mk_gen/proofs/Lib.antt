@@ -5,3 +5,4 @@ pub mod NumberNames
 pub mod KeyNumbers
 pub mod ClientLines
 pub mod WholeScripts
+pub mod QuietScripts

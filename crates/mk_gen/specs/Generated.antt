@@ -1,5 +1,5 @@
 -- The script of a number.
-use Rattle.std.specs.Prelude.{◌≡◌, ◌<◌, ℕ, zero, suc, ◌-◌, ◌%◌, List, [], ◌∷◌, ◌++◌, map}
+use Rattle.std.specs.Prelude.{◌≡◌, ◌<◌, ◌≤◌, ℕ, zero, suc, ◌-◌, ◌%◌, List, [], ◌∷◌, ◌++◌, map}
 use Rattle.std.specs.Fmt.{decimal}
 use Rattle.std.specs.List.{flat_map}
 use Rattle.mk_lists.specs.Among.{Each, AllDistinct}
@@ -10,6 +10,7 @@ use Rattle.mk_script.specs.declared.lines.TxnLine.{TxnLine}
 use Rattle.mk_script.specs.Scripts.{ScriptParts}
 use Rattle.mk_script.specs.Grammar.{Mention, keys_after, item_of}
 use Rattle.mk_script.specs.Grammar.Mention.{Reads, Writes, Computes, Deletes}
+use Rattle.mk_script.specs.Quiet.{IsQuiet}
 use Rattle.mk_gen.specs.WordStream.{words_of}
 use Rattle.mk_gen.specs.Drawn.{txns_drawn}
 
@@ -77,3 +78,7 @@ script_of_txns clients txns = one_round clients (keys_of_txns txns) (map (number
 -- the script of a number with so many clients, transactions and keys
 abbrev pub generated : ℕ → ℕ → ℕ → ℕ → ScriptParts
 generated number clients txns keys = script_of_txns clients (txns_drawn clients keys txns 0 (words_of number))
+
+-- the script of a number is quiet
+abbrev pub GeneratedAreQuiet : Type 0
+GeneratedAreQuiet = (number clients txns keys : ℕ) → 1 ≤ clients → clients ≤ keys → keys ≤ 256 → IsQuiet (generated number clients txns keys)

@@ -3,6 +3,8 @@
 
 mod draw;
 mod keys;
+mod quiet;
 mod whole;
 
+pub use quiet::generated_are_quiet;
 pub use whole::generate;

@@ -39,7 +39,3 @@ table_step names i entries new name target within is put t =
     ∙ ap (with_names (i + 1) (drop (i + 1) names)) (seen-insert entries name i)
     ∙ ap (λ (w : List ℕ). with_names (i + 1) (drop (i + 1) names) (insert_entry (slice_cmp nat_cmp) (map seen_entry entries) w i)) is
     ∙ ap (λ (x : List (List ℕ)). with_names i x (map seen_entry entries)) (sym (drop_named names i within)) ∙ t
-
--- no name is left
-pub table_end : (names : List (List ℕ)) (i : ℕ) (table target : NameTable) → drop i names ≡ [] → with_names i (drop i names) table ≡ target → table ≡ target
-table_end names i table target none t = ap (λ (x : List (List ℕ)). with_names i x table) (sym none) ∙ t

@@ -71,7 +71,7 @@ same-members (x ∷ xs) (y ∷ ys) h k to back = let e = heads (to x (inl refl))
 
 -- ---- a commit that a line tells is an attempt's
 
-abbrev told_as : TxnId → Transaction → Transaction
+abbrev pub told_as : TxnId → Transaction → Transaction
 told_as id u = record { id = id; stamp = u.stamp; reads = u.reads; writes = u.writes }
 
 told-from : (b : Bool) (id : TxnId) (o : Option Transaction) (state : State) (t : Transaction) → Among t (told_if b id o state) →
@@ -86,14 +86,14 @@ told-there b id o state u is says =
     subst (λ (x : Bool). Among (told_as id u) (told_if x id o state)) (sym says)
     (subst (λ (x : Option Transaction). Among (told_as id u) (told_if true id x state)) (sym is) (inl refl))
 
-record IsTold (f : ℕ) (first : Told) (column : ColumnState) (t : Transaction) : Type 0 where
-  id : TxnId
-  attempt : AttemptState
-  txn : Transaction
-  found : attempt_of column id ≡ Some attempt
-  stamped : attempt.txn ≡ Some txn
-  is : told_as attempt.id txn ≡ t
-  says : is_committed (state_of f column attempt (first attempt.id)) ≡ true
+pub record IsTold (f : ℕ) (first : Told) (column : ColumnState) (t : Transaction) : Type 0 where
+  pub id : TxnId
+  pub attempt : AttemptState
+  pub txn : Transaction
+  pub found : attempt_of column id ≡ Some attempt
+  pub stamped : attempt.txn ≡ Some txn
+  pub is : told_as attempt.id txn ≡ t
+  pub says : is_committed (state_of f column attempt (first attempt.id)) ≡ true
 
 lines-tell : (f : ℕ) (first : Told) (column : ColumnState) (client seq n : ℕ) (t : Transaction) → Among t (commits_in (lines_from f first column client seq n)) → IsTold f first column t
 lines-tell f first column client seq zero t m = absurd m
@@ -111,7 +111,7 @@ lines-tell f first column client seq (suc n) t m =
       | inr more ↦ later more
     ]
 
-clients-tell : (f : ℕ) (first : Told) (columns : List ColumnState) (client : ℕ) (numbers : List ℕ) (t : Transaction) → Among t (commits_in (lines_of_clients f first columns client numbers)) →
+pub clients-tell : (f : ℕ) (first : Told) (columns : List ColumnState) (client : ℕ) (numbers : List ℕ) (t : Transaction) → Among t (commits_in (lines_of_clients f first columns client numbers)) →
     (c : ℕ) × Among c numbers × IsTold f first (column_at columns c) t
 clients-tell f first columns client [] t m = absurd m
 clients-tell f first columns client (c ∷ numbers) t m =

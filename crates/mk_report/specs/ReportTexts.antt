@@ -134,8 +134,12 @@ answer_part (globals.Adopt epoch replica) answer = answer_text answer
 answer_part (globals.Enter epoch) answer = answer_text answer
 
 -- a global line as in a script, and its answer
+abbrev pub answered_text : GlobalEntry → List ℕ
+answered_text entry = join_with_byte 32 (global_words entry.line) ++ answer_part entry.line entry.answer
+
+-- the same, as a line
 abbrev pub global_text : GlobalEntry → List ℕ
-global_text entry = join_with_byte 32 (global_words entry.line) ++ (answer_part entry.line entry.answer ++ 10 ∷ [])
+global_text entry = answered_text entry ++ 10 ∷ []
 
 -- ---- the last lines
 

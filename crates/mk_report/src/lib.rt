@@ -1,15 +1,18 @@
-//! What is written of a run: the lines of its report.
+//! What is written of a run: its report, its summary and its JSON.
 #![tactic(auto)]
 
+mod json;
 mod laws;
 mod lines;
 mod parts;
 mod report;
 mod run_report;
 mod stores;
+mod whole_json;
 
-pub use laws::{commits_are_distinct, commits_are_told};
+pub use laws::{commits_are_distinct, commits_are_told, commits_are_transactions};
 pub use lines::{put_attempt, put_end, put_global, put_store, put_summed};
 pub use report::{put_report, put_summary};
-pub use run_report::{report_text, summary_text};
+pub use run_report::{json_text, report_text, summary_text};
 pub use stores::{put_stores, put_sum};
+pub use whole_json::json_bytes;

@@ -76,12 +76,18 @@ fn put_answer_part(out: &mut String, entry: GlobalEntry) -> Result<(), AllocErro
     }
 }
 
+pub(crate) fn put_answered(out: &mut String, entry: GlobalEntry) -> Result<(), AllocError>
+    ensures { OnOk result (string_bytes out.new ≡ string_bytes out.old ++ spec.answered_text entry) }
+{
+    put_line(out, entry.line)?;
+    put_answer_part(out, entry)
+}
+
 /// Writes a global line with its answer.
 pub fn put_global(out: &mut String, entry: GlobalEntry) -> Result<(), AllocError>
     ensures { OnOk result (string_bytes out.new ≡ string_bytes out.old ++ spec.global_text entry) }
 {
-    put_line(out, entry.line)?;
-    put_answer_part(out, entry)?;
+    put_answered(out, entry)?;
     writeln!(out)?;
     Ok(())
 }

@@ -49,7 +49,7 @@ pub fn put_value(out: &mut String, value: Value) -> Result<(), AllocError>
     Ok(())
 }
 
-fn put_path(out: &mut String, path: Path) -> Result<(), AllocError>
+pub fn put_path(out: &mut String, path: Path) -> Result<(), AllocError>
     ensures { OnOk result (string_bytes out.new ≡ string_bytes out.old ++ spec.path_text path) }
 {
     match path {
@@ -82,7 +82,7 @@ fn put_conflict(out: &mut String, keys: &Names, conflict: Conflict) -> Result<()
     put_stamp(out, conflict.stamp)
 }
 
-fn put_cause(out: &mut String, keys: &Names, cause: Cause) -> Result<(), AllocError>
+pub fn put_cause(out: &mut String, keys: &Names, cause: Cause) -> Result<(), AllocError>
     ensures { OnOk result (string_bytes out.new ≡ string_bytes out.old ++ spec.cause_text keys.now.names cause) }
 {
     match cause {
@@ -115,7 +115,7 @@ fn put_outcome(
     }
 }
 
-fn put_left(out: &mut String, left: Left) -> Result<(), AllocError>
+pub fn put_left(out: &mut String, left: Left) -> Result<(), AllocError>
     ensures { OnOk result (string_bytes out.new ≡ string_bytes out.old ++ spec.left_text left) }
 {
     match left {

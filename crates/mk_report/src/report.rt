@@ -3,7 +3,7 @@ ghost use Rattle.std.specs.Prelude.{◌≡◌, ◌++◌, OnOk, count_by};
 ghost use Rattle.std.specs.List.{flat_map};
 ghost use Rattle.std.specs.String.{string_bytes};
 ghost use Rattle.mk_report.specs.ReportTexts.{attempt_text, global_text};
-ghost use Rattle.mk_run.specs.Attempts.{is_committed as spec_committed, is_aborted as spec_aborted, is_open as spec_open};
+ghost use Rattle.mk_run.specs.Attempts.{is_committed as spec_committed, is_aborted as spec_aborted, is_open as spec_open, tally_of};
 ghost use Rattle.mk_report.specs.WholeReports as spec;
 
 use crate::lines::{put_attempt, put_end, put_global};
@@ -11,7 +11,7 @@ use crate::stores::{put_stores, put_sum};
 use mk_history::{RoundLog, State};
 use mk_names::Names;
 use mk_replay::OneCopy;
-use mk_run::AttemptLine;
+use mk_run::{AttemptLine, Tally};
 use mk_txn::{NoMemory, Outcome};
 use mk_words::GlobalEntry;
 use std::alloc::{AllocError, Global};
@@ -90,13 +90,24 @@ fn count_opens(lines: &[AttemptLine]) -> usize
     lines.iter().filter(|a| is_open(a.state)).count()
 }
 
-fn put_tally(out: &mut String, lines: &[AttemptLine]) -> Result<(), AllocError>
-    ensures { OnOk result (string_bytes out.new ≡ string_bytes out.old ++ spec.tally_text lines.now) }
+pub(crate) fn tally(lines: &[AttemptLine]) -> Tally
+    ensures { result ≡ tally_of lines.now }
 {
     let commits = count_commits(lines);
     let aborts = count_aborts(lines);
     let opens = count_opens(lines);
-    put_end(out, commits as u64, aborts as u64, opens as u64)
+    Tally {
+        commits: commits as u64,
+        aborts: aborts as u64,
+        opens: opens as u64,
+    }
+}
+
+fn put_tally(out: &mut String, lines: &[AttemptLine]) -> Result<(), AllocError>
+    ensures { OnOk result (string_bytes out.new ≡ string_bytes out.old ++ spec.tally_text lines.now) }
+{
+    let counted = tally(lines);
+    put_end(out, counted.commits, counted.aborts, counted.opens)
 }
 
 /// Writes the report of these lines of attempts, rounds and one copy.

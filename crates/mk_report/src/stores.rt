@@ -13,10 +13,13 @@ use mk_txn::{NoMemory, Stamp, Value, precedes};
 use std::alloc::{AllocError, Global};
 use std::collections::BTreeMap;
 
-const ZERO: Stamp = Stamp { time: 0, client: 0 };
+pub(crate) const ZERO: Stamp = Stamp { time: 0, client: 0 };
 
 /// The numbers of the names, the names ascending by their bytes.
-fn by_name<'a>(alloc: Global, names: &'a Names) -> Result<BTreeMap<&'a str, u32>, NoMemory>
+pub(crate) fn by_name<'a>(
+    alloc: Global,
+    names: &'a Names,
+) -> Result<BTreeMap<&'a str, u32>, NoMemory>
     ensures { IfOk result (λ table. map seen_entry table.entries ≡ spec.by_name names.now.names) }
 {
     let mut table = BTreeMap::new(alloc);

@@ -1,4 +1,4 @@
-//! Tests of reports and summaries.
+//! Tests of reports, summaries and JSON.
 #![tactic(auto)]
 
 #[cfg(test)]

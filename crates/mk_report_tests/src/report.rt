@@ -1,10 +1,10 @@
-//! Texts of reports and summaries.
+//! Texts of reports, summaries and JSON.
 use mk_history::{
     GlobalAnswer, GlobalEntry, GlobalLine, Globals, Journals, Left, Logs, Path, RoundLog, State,
 };
 use mk_names::Names;
 use mk_replay::{OneCopy, replay};
-use mk_report::{put_report, put_summary};
+use mk_report::{json_bytes, put_report, put_summary};
 use mk_run::{AttemptLine, Reads, Writes};
 use mk_txn::{
     Cause, Conflict, NoMemory, Outcome, ReadItem, Reason, Stamp, Txn, TxnId, Value, WriteItem,
@@ -112,6 +112,28 @@ const REPORT: &str = "a.1 @10.1 commit fast r:x@0.0=0 w:x=5 w:b=1844674407370955
 
 const SUMMARY: &str = "end 1 3 4\nstore 2 4\n";
 
+const JSON: &str = "{\"aborts\":3,\"attempts\":[\
+                    {\"cause\":null,\"id\":\"a.1\",\"outcome\":\"commit\",\"path\":\"fast\",\
+                    \"reads\":[{\"key\":\"x\",\"value\":0,\"version\":\"0.0\"}],\"stamp\":\"10.1\",\
+                    \"writes\":[{\"key\":\"x\",\"value\":5},{\"key\":\"b\",\"value\":18446744073709551615}]},\
+                    {\"cause\":\"conflict x read-pending 10.1\",\"id\":\"b.1\",\"outcome\":\"abort\",\"path\":\"fast\",\
+                    \"reads\":[{\"key\":\"x\",\"value\":0,\"version\":\"0.0\"}],\"stamp\":\"11.2\",\"writes\":[{\"key\":\"x\",\"value\":null}]},\
+                    {\"cause\":\"takeover 1\",\"id\":\"b.2\",\"outcome\":\"abort\",\"path\":\"takeover 1\",\
+                    \"reads\":[{\"key\":\"x\",\"value\":0,\"version\":\"0.0\"}],\"stamp\":\"11.2\",\"writes\":[{\"key\":\"x\",\"value\":null}]},\
+                    {\"cause\":\"epoch 1\",\"id\":\"b.3\",\"outcome\":\"abort\",\"path\":\"moved 1\",\
+                    \"reads\":[{\"key\":\"x\",\"value\":0,\"version\":\"0.0\"}],\"stamp\":\"11.2\",\"writes\":[{\"key\":\"x\",\"value\":null}]},\
+                    {\"cause\":null,\"id\":\"b.4\",\"outcome\":\"open\",\"path\":\"short 1\",\
+                    \"reads\":[{\"key\":\"x\",\"value\":0,\"version\":\"0.0\"}],\"stamp\":\"11.2\",\"writes\":[{\"key\":\"x\",\"value\":null}]},\
+                    {\"cause\":null,\"id\":\"b.5\",\"outcome\":\"open\",\"path\":\"stopped\",\
+                    \"reads\":[{\"key\":\"x\",\"value\":0,\"version\":\"0.0\"}],\"stamp\":\"11.2\",\"writes\":[{\"key\":\"x\",\"value\":null}]},\
+                    {\"cause\":null,\"id\":\"b.6\",\"outcome\":\"open\",\"path\":\"unclear 2 1\",\
+                    \"reads\":[{\"key\":\"x\",\"value\":0,\"version\":\"0.0\"}],\"stamp\":\"11.2\",\"writes\":[{\"key\":\"x\",\"value\":null}]},\
+                    {\"cause\":null,\"id\":\"b.7\",\"outcome\":\"open\",\"path\":\"unread\",\"reads\":[],\"stamp\":null,\"writes\":[]}],\
+                    \"commits\":1,\"globals\":[\"ask 1\",\"promise 1 1 word-fault\",\"merge 1 short 1\",\"merge 1 ok 1 0\",\
+                    \"adopt 1 0 old 2\",\"enter 1 ok 2\"],\"opens\":4,\
+                    \"store\":[{\"key\":\"b\",\"value\":18446744073709551615,\"version\":\"10.1\"},\
+                    {\"key\":\"x\",\"value\":5,\"version\":\"10.1\"}]}\n";
+
 fn names(alloc: Global, texts: &[&str]) -> Result<Names, NoMemory> {
     let mut names = Names::new(alloc);
     for text in texts {
@@ -197,12 +219,12 @@ fn lines(alloc: Global) -> Result<Vec<AttemptLine>, NoMemory> {
 }
 
 #[test]
-fn a_report_and_a_summary(rt: HostRuntime) -> Result<(), Fail> {
+fn a_report_a_summary_and_json(rt: HostRuntime) -> Result<(), Fail> {
     let clients = names(rt.alloc(), &["a", "b"])?;
     let keys = names(rt.alloc(), &["x", "b", "never"])?;
     let lines = lines(rt.alloc())?;
     let copy = copy(&rt)?;
-    let round = round(&rt)?;
+    let rounds = [round(&rt)?];
     let mut out = String::new(rt.alloc());
     put_report(
         &mut out,
@@ -210,12 +232,14 @@ fn a_report_and_a_summary(rt: HostRuntime) -> Result<(), Fail> {
         &clients,
         &keys,
         &lines,
-        &[round],
+        &rounds,
         &copy,
     )?;
     assert!(rt; out.as_str() == REPORT);
     let mut out = String::new(rt.alloc());
     put_summary(&mut out, rt.alloc(), &keys, &lines, &copy)?;
     assert!(rt; out.as_str() == SUMMARY);
+    let text = json_bytes(rt.alloc(), &clients, &keys, &lines, &rounds, &copy)?;
+    assert!(rt; text.as_slice() == JSON.as_bytes());
     Ok(())
 }
