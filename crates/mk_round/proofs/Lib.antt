@@ -1,0 +1,13 @@
+pub mod Placed
+pub mod Loops
+pub mod PastLaws
+pub mod ColumnLaws
+pub mod NextLaws
+pub mod DoneLaws
+pub mod FollowLaws
+pub mod BeginLaws
+pub mod TakeLaws
+pub mod HandLaws
+pub mod AfterLaws
+pub mod EndLaws
+pub mod WorkLaws

@@ -1,0 +1,3 @@
+-- Scripts that are run.
+pub mod Words
+pub mod Globals

@@ -1,0 +1,8 @@
+//! A script run to its end, on a whole store.
+#![tactic(auto)]
+
+mod globals;
+mod head;
+mod run;
+
+pub use run::run_script;
