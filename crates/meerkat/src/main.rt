@@ -1,10 +1,13 @@
-//! The program `meerkat`: hands the words, the standard input and the standard output to the top call, says in one line
-//! on standard error why it failed, and ends with its status.
+//! The program `meerkat`: hands the words, the standard input and the standard output to the call of its first word, says
+//! in one line on standard error why it failed, and ends with its status.
 #![tactic(auto)]
 
-use mk_io::{StdSink, StdSource};
+use mk_ending::Why;
+use mk_io::{StdSink, StdSource, SureWord};
+use mk_lock::NoGate;
 use mk_proc::{Proc, ProcKind, Procs, add, max, sum};
-use mk_top::{Done, Why, run_top};
+use mk_tool::tool_top;
+use mk_top::{Done, run_top};
 use std::process::ExitCode;
 use std::rt::Env;
 use std::{env, io};
@@ -20,29 +23,64 @@ fn words_of<R: Env + AllocGlobal>(rt: &R) -> io::Result<Vec<String>> {
     Ok(words)
 }
 
-fn ended(rt: &impl Eprint, done: Done) -> ExitCode {
-    if let Some(why) = done.why {
+fn ended(rt: &impl Eprint, status: u8, why: Option<Why>) -> ExitCode {
+    if let Some(why) = why {
         let _ = eprintln!(rt; "{why}");
     }
-    ExitCode::from(done.status)
+    ExitCode::from(status)
+}
+
+fn refused(rt: &impl Eprint, why: Why) -> ExitCode {
+    let done = Done::refused(why);
+    ended(rt, done.status, done.why)
+}
+
+/// Whether the first word is one of the call that reads traces.
+fn reads_trace(words: &[String]) -> bool {
+    match words {
+        [first, ..] => first.as_str() == "check",
+        [] => false,
+    }
 }
 
 fn main(rt: HostRuntime) -> ExitCode {
     let words = match words_of(&rt) {
         Ok(words) => words,
         Err(error) if error.kind() == io::ErrorKind::OutOfMemory => {
-            return ended(&rt, Done::refused(Why::NoMemory));
+            return refused(&rt, Why::NoMemory);
         }
         // A word that is no text.
-        Err(_) => return ended(&rt, Done::refused(Why::Usage)),
+        Err(_) => return refused(&rt, Why::Usage),
     };
+    let mut source = StdSource::new(rt.reader());
+    let mut sink = StdSink::new(io::writer(&rt));
+    if reads_trace(words.as_slice()) {
+        let done = tool_top(rt.alloc(), words.as_slice(), &mut source, &mut sink);
+        return ended(&rt, done.status, done.why);
+    }
     let procs = Procs::new(
         Proc::new(ProcKind::Add, add),
         Proc::new(ProcKind::Sum, sum),
         Proc::new(ProcKind::Max, max),
     );
-    let mut source = StdSource::new(rt.reader());
-    let mut sink = StdSink::new(io::writer(&rt));
-    let done = run_top(rt.alloc(), words.as_slice(), &mut source, &mut sink, &procs);
-    ended(&rt, done)
+    let mut epoch_words = [
+        SureWord::new(),
+        SureWord::new(),
+        SureWord::new(),
+        SureWord::new(),
+        SureWord::new(),
+        SureWord::new(),
+        SureWord::new(),
+    ];
+    let done = run_top(
+        &rt,
+        rt.alloc(),
+        words.as_slice(),
+        &mut source,
+        &mut sink,
+        &mut epoch_words,
+        &procs,
+        &NoGate,
+    );
+    ended(&rt, done.status, done.why)
 }

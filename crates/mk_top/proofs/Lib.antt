@@ -1,3 +1,1 @@
-pub mod StoreLaws
-pub mod OpeningLaws
-pub mod FirstLaws
+pub mod FormLaws

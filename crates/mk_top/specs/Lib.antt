@@ -1,5 +1,5 @@
-pub mod Spellings
-pub mod Attempts
-pub mod FirstScripts
-pub mod Reports
-pub mod Done
+-- What the call of the program does.
+pub mod Forms
+pub mod Asked
+pub mod Runs
+pub mod Ends

@@ -1,13 +1,13 @@
-//! The calls that the program makes: `run_top` reads a script, runs it and writes its report.
-//!
-//! So far it runs scripts of one client with one transaction at the most, whose attempt finds every key as it was at
-//! the beginning.
+//! The call that the program makes: a script is read or made, run on the whole store, and a text of its run is written.
 #![tactic(auto)]
 
-mod attempt;
-mod first;
-mod reporting;
+mod done;
+mod form;
+mod reading;
+mod telling;
 mod top;
-mod writing;
 
-pub use top::{Done, Why, run_top};
+pub use done::Done;
+pub use mk_ending::Why;
+pub use mk_kept::Run;
+pub use top::run_top;

@@ -1,200 +1,223 @@
 //! The call that the program makes.
-ghost use Rattle.std.specs.Prelude.{◌≡◌, ◌≢◌, ◌≤◌, ◌+◌, ◌↔◌, IsTrue, ℕ, true, false, Err, Some, None, length, map, IfOk, IfErr, OnOk};
+ghost use Rattle.std.specs.Prelude.{◌≡◌, ◌≢◌, ◌+◌, ◌↔◌, ℕ, true, false, Err, Some, None, length, map, IfOk, IfErr, IfSome, IsSome};
 ghost use Rattle.std.specs.String.{string_bytes};
-ghost use Rattle.std.specs.Io.KnownBytes.{Appends};
 ghost use Rattle.mk_spelling.specs.declared.fault.TextFault.{TextFault as Fault};
 ghost use Rattle.mk_io.specs.Faults.{HasRisen};
-ghost use Rattle.mk_io.specs.Wholes.{AppendsPart, TakesAll, TakesCount, TakesAtMost};
-ghost use Rattle.mk_script.specs.Scripts.{ScriptParts};
-ghost use Rattle.mk_script.specs.Texts.{IsScript};
-ghost use Rattle.mk_script.specs.Whole.{IsWhole};
-ghost use Rattle.mk_top.specs.FirstScripts as first;
-ghost use Rattle.mk_top.specs.Reports.{report_of};
-ghost use Rattle.mk_top.specs.Done.{run_words, script_limit, Says, SaysFault, IsUnread, IsUnrun, status_of, unread};
-ghost use Rattle.mk_top.specs.declared.top.Why.{Why as Reason};
-ghost use Rattle.mk_top.specs.declared.top.Why.TheVariants as reasons;
+ghost use Rattle.mk_io.specs.Wholes.{TakesCount, TakesAtMost};
+ghost use Rattle.mk_history.specs.Legality.{IsLegal};
+ghost use Rattle.mk_history.specs.Safety.{IsSafe};
+ghost use Rattle.mk_history.specs.Wholes.{last_state};
+ghost use Rattle.mk_lists.specs.Among.{Each};
+ghost use Rattle.mk_driver.specs.Driven.{IsDriven};
+ghost use Rattle.mk_store.specs.Words.{WordsRead, FaultsAreCounted, word_faults};
+ghost use Rattle.mk_top.specs.declared.form.Form.{Form as FormOfWords};
+ghost use Rattle.mk_top.specs.Forms as forms;
+ghost use Rattle.mk_top.specs.Asked.{script_limit, SaysFault, IsUnmade, is_of_reading};
+ghost use Rattle.mk_top.specs.Runs.{IsRunOf, text_of, has_left};
+ghost use Rattle.mk_top.specs.Ends.{status_by, status_of, has_run, Tells, IsOfForm};
 
-use crate::first::is_first;
-use crate::reporting::report;
-use mk_io::{Failed, ReadError, Sink, Source, read_whole, write_whole};
+use crate::done::Done;
+use crate::form::{Form, form_of};
+use crate::reading::script_of;
+use crate::telling::{Told, tell};
+use mk_ending::{Grammar, Why};
+use mk_io::{EpochWord, Failed, Sink, Source, write_whole};
+use mk_kept::Run;
+use mk_lock::Gate;
 use mk_proc::Procs;
-use mk_script::{Script, ScriptError, TextFault, parse};
+use mk_script::Script;
+use mk_store::run_script;
 use mk_txn::NoMemory;
 use std::alloc::Global;
-use thiserror::Error;
+use std::sync::Wait;
+use std::thread::Threads;
 
-/// The bytes of a script at the most.
-pub const SCRIPT_LIMIT: usize = 4_194_304;
-
-/// Why a call wrote no whole report. It is printed as the program's line on standard error.
-#[derive(Clone, Copy, Debug, PartialEq, Eq, Error)]
-pub enum Why {
-    /// The words are not the one word `run`.
-    #[error("usage: meerkat run")]
-    Usage,
-    /// The bytes are no script: the first faulty line, counted from 1, and its first fault.
-    #[error("line {line}: {why}")]
-    Refused { line: u64, why: TextFault },
-    /// The source failed.
-    #[error("source fault")]
-    SourceFault,
-    /// The source has more bytes than a script may have.
-    #[error("too long")]
-    TooLong,
-    /// The sink failed.
-    #[error("sink fault")]
-    SinkFault,
-    /// There was no memory.
-    #[error("no memory")]
-    NoMemory,
-    /// The bytes are a script, and no first script.
-    #[error("unbuilt")]
-    Unbuilt,
-}
-
-/// How a call ended: the status that the program ends with, and why it wrote no whole report, if it didn't.
-#[derive(Clone, Copy)]
-pub struct Done {
-    pub status: u8,
-    pub why: Option<Why>,
-}
-
-impl Done {
-    /// A call that failed so.
-    pub fn refused(why: Why) -> Done
-        ensures { result ≡ record { status = status_of (Some why); why = Some why } }
-    {
-        let status = match why {
-            Why::Usage => 1,
-            Why::Refused { .. } => 2,
-            Why::SourceFault => 3,
-            Why::TooLong => 4,
-            Why::SinkFault => 5,
-            Why::NoMemory => 9,
-            Why::Unbuilt => 11,
-        };
-        Done {
-            status,
-            why: Some(why),
-        }
-    }
-}
-
-impl From<ReadError> for Why {
-    ghost from_gives = { λ e why. why ≡ unread e };
-
-    fn from(error: ReadError) -> Why {
-        match error {
-            ReadError::Fault => Why::SourceFault,
-            ReadError::TooLong => Why::TooLong,
-            ReadError::NoMemory => Why::NoMemory,
-        }
-    }
-}
-
-impl From<NoMemory> for Why {
-    ghost from_gives = { λ _ why. why ≡ reasons.NoMemory };
-
-    fn from(_: NoMemory) -> Why {
-        Why::NoMemory
-    }
-}
-
-impl From<Failed> for Why {
-    ghost from_gives = { λ _ why. why ≡ reasons.SinkFault };
-
-    fn from(_: Failed) -> Why {
-        Why::SinkFault
-    }
-}
-
-/// The bytes that the source holds, which may be a script.
-fn bytes_from<S: Source>(alloc: Global, source: &mut S) -> Result<Vec<u8>, Why>
-    ensures whole { IfOk result (λ bytes. TakesAll (S.left source.old) (S.left source.new) bytes.items × (length bytes.items ≤ script_limit)) }
-    ensures err { IfErr result IsUnread }
-    ensures too_long { result ≡ Err Why.TooLong → TakesCount (S.left source.old) (S.left source.new) (script_limit + 1) }
-    ensures not_too_long { result ≢ Err Why.TooLong → TakesAtMost (S.left source.old) (S.left source.new) script_limit }
-    ensures fault { result ≡ Err Why.SourceFault → HasRisen (S.faults source.old) (S.faults source.new) }
+/// A run that could have happened is safe. The function does nothing.
+fn are_safe(run: &Run)
+    requires { IsLegal run.now }
+    ensures { IsSafe run.now }
 {
-    Ok(read_whole(alloc, source, SCRIPT_LIMIT)?)
+    mk_safety::legal_runs_are_safe();
+    let _head = run.head();
 }
 
-/// The first script that the bytes stand for.
-fn first_script(alloc: Global, bytes: &[u8]) -> Result<Script, Why>
-    ensures ok { IfOk result (λ script. IsScript bytes.now script × (first.is_first script ≡ true) × IsWhole script) }
-    ensures err { IfErr result (IsUnrun bytes.now) }
+/// Runs the script. The run is safe.
+fn run_safely<W: EpochWord, G: Gate + Sync, R: Threads + Wait + Sync>(
+    rt: &R,
+    alloc: Global,
+    script: &Script,
+    epoch_words: &mut [W],
+    procs: &Procs,
+    gate: &G,
+) -> Result<Run, NoMemory>
+    requires seven { length epoch_words.old ≡ 7 }
+    requires fresh { Each (λ word. W.kept word ≡ 0) epoch_words.old }
+    ensures legal { IfOk result (λ run. IsLegal run) }
+    ensures driven { IfOk result (λ run. IsDriven script.now run) }
+    ensures safe { IfOk result (λ run. IsSafe run) }
+    ensures words { IfOk result (λ run. WordsRead W.kept (last_state run).epochs epoch_words.new) }
+    ensures faults { IfOk result (λ run. FaultsAreCounted W.faults epoch_words.old epoch_words.new (λ r. word_faults r run.rounds)) }
 {
-    match parse(alloc, bytes) {
-        Ok(script) if is_first(&script) => Ok(script),
-        Ok(_) => Err(Why::Unbuilt),
-        Err(ScriptError::Refused { line, why }) => Err(Why::Refused { line, why }),
-        Err(ScriptError::NoMemory) => Err(Why::NoMemory),
-    }
+    let run = run_script(rt, alloc, script, epoch_words, procs, gate)?;
+    are_safe(&run);
+    Ok(run)
 }
 
-/// The report of the script that the source holds.
-fn report_from<S: Source>(alloc: Global, procs: &Procs, source: &mut S) -> Result<String, Why>
-    ensures ok { IfOk result (λ text. (script : ScriptParts) × Says (S.left source.old) script × (first.is_first script ≡ true) × (string_bytes text ≡ report_of script)) }
+/// Runs the script that the form asks for, and tells the run. All the memory that writing needs is taken here.
+fn run_told<S: Source, W: EpochWord, G: Gate + Sync, R: Threads + Wait + Sync>(
+    rt: &R,
+    alloc: Global,
+    form: Form,
+    source: &mut S,
+    epoch_words: &mut [W],
+    procs: &Procs,
+    gate: &G,
+) -> Result<Told, Why>
+    requires fits { forms.Fits form }
+    requires seven { length epoch_words.old ≡ 7 }
+    requires fresh { Each (λ word. W.kept word ≡ 0) epoch_words.old }
+    ensures run { IfOk result (λ told. IsRunOf form (S.left source.old) told.run) }
+    ensures text { IfOk result (λ told. told.text.items ≡ text_of form told.run) }
+    ensures left { IfOk result (λ told. told.is_left ≡ has_left told.run) }
+    ensures words { IfOk result (λ told. WordsRead W.kept (last_state told.run).epochs epoch_words.new) }
+    ensures faults { IfOk result (λ told. FaultsAreCounted W.faults epoch_words.old epoch_words.new (λ r. word_faults r told.run.rounds)) }
+    ensures kept { IfErr result (λ why. why ≢ Why.NoMemory → epoch_words.new ≡ epoch_words.old) }
     ensures refused { (line : ℕ) (why : Fault) → result ≡ Err (Why.Refused line why) → SaysFault (S.left source.old) line why }
-    ensures unbuilt { result ≡ Err Why.Unbuilt → (script : ScriptParts) × Says (S.left source.old) script × (first.is_first script ≡ false) }
     ensures too_long { result ≡ Err Why.TooLong → TakesCount (S.left source.old) (S.left source.new) (script_limit + 1) }
     ensures not_too_long { result ≢ Err Why.TooLong → TakesAtMost (S.left source.old) (S.left source.new) script_limit }
-    ensures fault { result ≡ Err Why.SourceFault → HasRisen (S.faults source.old) (S.faults source.new) }
-    ensures no_usage { result ≢ Err Why.Usage }
-    ensures no_sink { result ≢ Err Why.SinkFault }
+    ensures source_fault { result ≡ Err Why.SourceFault → HasRisen (S.faults source.old) (S.faults source.new) }
+    ensures others { IfErr result IsUnmade }
+    ensures read { IfErr result (λ why. is_of_reading why ≡ true → forms.reads form ≡ true) }
+    ensures unread { forms.reads form ≡ false → source.new ≡ source.old }
 {
-    let bytes = bytes_from(alloc, source)?;
-    let script = first_script(alloc, bytes.as_slice())?;
-    Ok(report(alloc, procs, &script)?)
+    let script = script_of(alloc, form, source)?;
+    let run = run_safely(rt, alloc, &script, epoch_words, procs, gate)?;
+    Ok(tell(alloc, form, run)?)
 }
 
-/// Writes the whole report.
-fn write_report<K: Sink>(sink: &mut K, text: &str) -> Result<(), Why>
-    ensures ok { OnOk result (Appends (K.held sink.old) (K.held sink.new) text.now) }
-    ensures err { IfErr result (λ why. (why ≡ Why.SinkFault) × HasRisen (K.faults sink.old) (K.faults sink.new) × AppendsPart (K.held sink.old) (K.held sink.new) text.now) }
+/// The status of a call with a run that ended so.
+fn status_with(why: Option<Why>, is_left: bool) -> u8
+    ensures { result ≡ status_by why is_left }
 {
-    Ok(write_whole(sink, text.as_bytes())?)
-}
-
-fn is_word(word: &String, text: &str) -> bool
-    ensures { IsTrue result ↔ (string_bytes word.now ≡ text.now) }
-{
-    word.as_str() == text
-}
-
-fn is_run(words: &[String]) -> bool
-    ensures { IsTrue result ↔ (map string_bytes words.now ≡ run_words) }
-{
-    match words {
-        [word] => is_word(word, "run"),
-        _ => false,
+    match why {
+        Some(why) => why.status(Grammar::Script),
+        None if is_left => 6,
+        None => 0,
     }
 }
 
-/// Reads a script from the source, runs it and writes its report to the sink, where the words are the one word `run`
-/// and the script is a first script. All else is refused: with other words nothing is read, and where a refusal other
-/// than the sink's comes nothing is written. All the memory that writing needs is taken before the first write.
-pub fn run_top<S: Source, K: Sink>(
+/// Writes the whole text, and tells why it didn't.
+fn write_text<K: Sink>(sink: &mut K, text: &[u8]) -> Option<Why>
+    ensures ends { has_run result ≡ true }
+    ensures text { Tells result (K.held sink.old) (K.held sink.new) text.now }
+    ensures fault { result ≡ Some Why.SinkFault → HasRisen (K.faults sink.old) (K.faults sink.new) }
+{
+    match write_whole(sink, text) {
+        Ok(()) => None,
+        Err(Failed) => Some(Why::SinkFault),
+    }
+}
+
+/// Writes the text of the run.
+fn write_told<K: Sink>(told: Told, sink: &mut K) -> Done
+    requires left { told.is_left ≡ has_left told.run }
+    ensures status { result.status ≡ status_of result.why result.run }
+    ensures run { result.run ≡ Some told.run }
+    ensures ends { has_run result.why ≡ true }
+    ensures text { Tells result.why (K.held sink.old) (K.held sink.new) told.text.items }
+    ensures fault { result.why ≡ Some Why.SinkFault → HasRisen (K.faults sink.old) (K.faults sink.new) }
+{
+    let Told { run, text, is_left } = told;
+    let why = write_text(sink, text.as_slice());
+    Done {
+        status: status_with(why, is_left),
+        run: Some(run),
+        why,
+    }
+}
+
+/// Runs the script that the form asks for, and writes the text of the run.
+fn run_form<S: Source, K: Sink, W: EpochWord, G: Gate + Sync, R: Threads + Wait + Sync>(
+    rt: &R,
+    alloc: Global,
+    form: Form,
+    source: &mut S,
+    sink: &mut K,
+    epoch_words: &mut [W],
+    procs: &Procs,
+    gate: &G,
+) -> Done
+    requires fits { forms.Fits form }
+    requires seven { length epoch_words.old ≡ 7 }
+    requires fresh { Each (λ word. W.kept word ≡ 0) epoch_words.old }
+    ensures status { result.status ≡ status_of result.why result.run }
+    ensures there { IsSome result.run ↔ (has_run result.why ≡ true) }
+    ensures run { IfSome result.run (IsRunOf form (S.left source.old)) }
+    ensures text { IfSome result.run (λ run. Tells result.why (K.held sink.old) (K.held sink.new) (text_of form run)) }
+    ensures words { IfSome result.run (λ run. WordsRead W.kept (last_state run).epochs epoch_words.new) }
+    ensures faults { IfSome result.run (λ run. FaultsAreCounted W.faults epoch_words.old epoch_words.new (λ r. word_faults r run.rounds)) }
+    ensures refused { (line : ℕ) (why : Fault) → result.why ≡ Some (Why.Refused line why) → SaysFault (S.left source.old) line why }
+    ensures too_long { result.why ≡ Some Why.TooLong → TakesCount (S.left source.old) (S.left source.new) (script_limit + 1) }
+    ensures not_too_long { result.why ≢ Some Why.TooLong → TakesAtMost (S.left source.old) (S.left source.new) script_limit }
+    ensures source_fault { result.why ≡ Some Why.SourceFault → HasRisen (S.faults source.old) (S.faults source.new) }
+    ensures sink_fault { result.why ≡ Some Why.SinkFault → HasRisen (K.faults sink.old) (K.faults sink.new) }
+    ensures others { IfSome result.why IsOfForm }
+    ensures read { IfSome result.why (λ why. is_of_reading why ≡ true → forms.reads form ≡ true) }
+    ensures unread { forms.reads form ≡ false → source.new ≡ source.old }
+    ensures untouched { has_run result.why ≡ false → sink.new ≡ sink.old }
+    ensures kept { has_run result.why ≡ false → result.why ≢ Some Why.NoMemory → epoch_words.new ≡ epoch_words.old }
+{
+    match run_told(rt, alloc, form, source, epoch_words, procs, gate) {
+        Ok(told) => write_told(told, sink),
+        Err(why) => Done::refused(why),
+    }
+}
+
+/// Runs a script on the whole store and writes a text of its run: with the word `run` the report of the script that is read,
+/// with the words `run --trace` its trace, with the words `run --json` its JSON, and with the words
+/// `gen NUMBER CLIENTS TXNS KEYS` the summary of the script that is made from these numbers. All else is refused. The words are
+/// tested before anything is read; what is refused comes in the order usage, source fault or too long, text, sink. Want of
+/// memory comes before the first write.
+///
+/// The seven epoch words belong to the replicas by number and read 0 at the start. Each turn at a key lock passes the gate.
+/// It waits at the key locks.
+pub fn run_top<S: Source, K: Sink, W: EpochWord, G: Gate + Sync, R: Threads + Wait + Sync>(
+    rt: &R,
     alloc: Global,
     words: &[String],
     source: &mut S,
     sink: &mut K,
+    epoch_words: &mut [W],
     procs: &Procs,
+    gate: &G,
 ) -> Done
-    ensures status { result.status ≡ status_of result.why }
+    requires seven { length epoch_words.old ≡ 7 }
+    requires fresh { Each (λ word. W.kept word ≡ 0) epoch_words.old }
+    ensures status { result.status ≡ status_of result.why result.run }
 
-    // The report of the script that the source held was written whole.
-    ensures ran { result.why ≡ None → (map string_bytes words.now ≡ run_words) × ((script : ScriptParts) × Says (S.left source.old) script × (first.is_first script ≡ true) × Appends (K.held sink.old) (K.held sink.new) (report_of script)) }
+    // A run is there exactly where its text was written whole, or else the sink failed.
+    ensures there { IsSome result.run ↔ (has_run result.why ≡ true) }
 
-    // The words are others, and nothing was read.
-    ensures usage { (result.why ≡ Some Why.Usage) ↔ (map string_bytes words.now ≢ run_words) }
-    ensures other_words { map string_bytes words.now ≢ run_words → source.new ≡ source.old }
+    // It is a run of the script that the words ask for: it could have happened, goes by the script, and is safe.
+    ensures run { (form : FormOfWords) → forms.form_of (map string_bytes words.now) ≡ Some form → IfSome result.run (IsRunOf form (S.left source.old)) }
+
+    // What was written is the text of this run that the words ask for, and a front of it where the sink failed.
+    ensures text { (form : FormOfWords) → forms.form_of (map string_bytes words.now) ≡ Some form →
+        IfSome result.run (λ run. Tells result.why (K.held sink.old) (K.held sink.new) (text_of form run)) }
+
+    // Each epoch word reads that of its replica at the end of the run, and its faults are those of the run.
+    ensures words { IfSome result.run (λ run. WordsRead W.kept (last_state run).epochs epoch_words.new) }
+    ensures faults { IfSome result.run (λ run. FaultsAreCounted W.faults epoch_words.old epoch_words.new (λ r. word_faults r run.rounds)) }
+
+    // The words have no form.
+    ensures usage { (result.why ≡ Some Why.Usage) ↔ (forms.form_of (map string_bytes words.now) ≡ None) }
+
+    // Only words of a form that reads a script read the source, and are refused for what it gives.
+    ensures unread { forms.are_reading (forms.form_of (map string_bytes words.now)) ≡ false → source.new ≡ source.old }
+    ensures read { IfSome result.why (λ why. is_of_reading why ≡ true → forms.are_reading (forms.form_of (map string_bytes words.now)) ≡ true) }
 
     // The source held no script: which line is faulty, and what its first fault is.
     ensures refused { (line : ℕ) (why : Fault) → result.why ≡ Some (Why.Refused line why) → SaysFault (S.left source.old) line why }
-
-    // The source held a script that is no first script.
-    ensures unbuilt { result.why ≡ Some Why.Unbuilt → (script : ScriptParts) × Says (S.left source.old) script × (first.is_first script ≡ false) }
 
     // One byte more than a script may have was taken, and at every other ending no more than it may have.
     ensures too_long { result.why ≡ Some Why.TooLong → TakesCount (S.left source.old) (S.left source.new) (script_limit + 1) }
@@ -202,23 +225,17 @@ pub fn run_top<S: Source, K: Sink>(
 
     // Each fault comes only where the count of that object rose in this call.
     ensures source_fault { result.why ≡ Some Why.SourceFault → HasRisen (S.faults source.old) (S.faults source.new) }
-    ensures sink_fault { result.why ≡ Some Why.SinkFault → HasRisen (K.faults sink.old) (K.faults sink.new) × ((script : ScriptParts) × Says (S.left source.old) script × (first.is_first script ≡ true) × AppendsPart (K.held sink.old) (K.held sink.new) (report_of script)) }
+    ensures sink_fault { result.why ≡ Some Why.SinkFault → HasRisen (K.faults sink.old) (K.faults sink.new) }
 
-    // Nothing was written at any other refusal.
-    ensures untouched { (why : Reason) → result.why ≡ Some why → why ≢ Why.SinkFault → sink.new ≡ sink.old }
+    // No run lacks an attempt that is asked for.
+    ensures no_attempt { result.why ≢ Some Why.NoAttempt }
+
+    // Where there is no run, nothing was written, and no epoch word was touched unless memory was wanting.
+    ensures untouched { has_run result.why ≡ false → sink.new ≡ sink.old }
+    ensures kept { has_run result.why ≡ false → result.why ≢ Some Why.NoMemory → epoch_words.new ≡ epoch_words.old }
 {
-    if !is_run(words) {
-        return Done::refused(Why::Usage);
-    }
-    let text = match report_from(alloc, procs, source) {
-        Ok(text) => text,
-        Err(why) => return Done::refused(why),
-    };
-    match write_report(sink, text.as_str()) {
-        Ok(()) => Done {
-            status: 0,
-            why: None,
-        },
-        Err(why) => Done::refused(why),
+    match form_of(words) {
+        Some(form) => run_form(rt, alloc, form, source, sink, epoch_words, procs, gate),
+        None => Done::refused(Why::Usage),
     }
 }

@@ -1,0 +1,2 @@
+-- How a call of the program ends.
+pub mod Endings

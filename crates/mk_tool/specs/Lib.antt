@@ -1,0 +1,3 @@
+-- What the words of traces answer.
+pub mod VerdictTexts
+pub mod Checked

@@ -1,0 +1,5 @@
+//! Tests of the calls that read traces.
+#![tactic(auto)]
+
+#[cfg(test)]
+mod check;

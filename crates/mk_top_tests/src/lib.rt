@@ -1,5 +1,0 @@
-//! Tests of the calls that the program makes.
-#![tactic(auto)]
-
-#[cfg(test)]
-mod top;
