@@ -14,7 +14,7 @@ sys.path.insert(0, os.path.dirname(os.path.abspath(__file__)))
 import layers
 
 TOP = layers.TOP
-HEADLINE = ("IsScript", "IsDriven", "LegalRunsAreSafe")
+HEADLINE = (("mk_top", "form_of"), ("mk_top", "IsRunOf"), ("mk_top", "text_of"), ("mk_top", "status_of"), ("mk_history", "LegalRunsAreSafe"))
 START, END = "<!-- index: made by tools/write_docs -->", "<!-- end of index -->"
 WORD = re.compile(r"[A-Za-z_][\w\-'₁₂₃]*|◌[^\s]+◌")
 BEGIN = re.compile(r"^(?:abbrev |unfoldable )*(?:pub )?(?:abbrev )?(?:(?:record|data) ([^\s:(]+)|([^\s:(){}.,=|]+) : )")
@@ -61,7 +61,7 @@ def modules():
 
 def believed(every):
     by_name = {module.name: module for module in every}
-    left = [(module, name) for module in every for name in HEADLINE if name in module.items]
+    left = [(module, name) for module in every for crate, name in HEADLINE if module.crate == crate and name in module.items]
     found = set()
     while left:
         module, name = left.pop()
