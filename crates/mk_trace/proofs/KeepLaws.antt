@@ -43,16 +43,16 @@ abbrev pub IsVersion : ℕ → Type 0
 IsVersion v = (v ≡ 1) ⊎ (v ≡ 2)
 
 pub record IsHead (head : Head) : Type 0 where
-  size : Between 1 3 head.size
-  columns : head.columns ≡ columns_of head.client_columns
-  few_columns : head.columns ≤ 8
-  clients : length head.client_names.names ≡ length head.client_columns
-  few_clients : length head.client_names.names ≤ 64
-  few_keys : length head.key_names.names ≤ 256
-  named_clients : Each (λ name. is_name name ≡ true) head.client_names.names
-  named_keys : Each (λ name. is_name name ≡ true) head.key_names.names
-  distinct_clients : AllDistinct head.client_names.names
-  distinct_keys : AllDistinct head.key_names.names
+  pub size : Between 1 3 head.size
+  pub columns : head.columns ≡ columns_of head.client_columns
+  pub few_columns : head.columns ≤ 8
+  pub clients : length head.client_names.names ≡ length head.client_columns
+  pub few_clients : length head.client_names.names ≤ 64
+  pub few_keys : length head.key_names.names ≤ 256
+  pub named_clients : Each (λ name. is_name name ≡ true) head.client_names.names
+  pub named_keys : Each (λ name. is_name name ≡ true) head.key_names.names
+  pub distinct_clients : AllDistinct head.client_names.names
+  pub distinct_keys : AllDistinct head.key_names.names
 
 no_head_law : IsHead no_head
 no_head_law = record {
@@ -280,28 +280,28 @@ abbrev pub globals_in : RoundLog → ℕ
 globals_in round = length round.globals
 
 pub record InHead (s : State) : Type 0 where
-  head : IsHead s.head
-  counts : length s.begun ≡ length s.head.client_names.names
-  zeros : (client : ℕ) → begun_of s.begun client ≡ 0
-  count : s.count ≡ 0
-  rounds : s.rounds ≡ []
-  changes : s.changes ≡ 0
+  pub head : IsHead s.head
+  pub counts : length s.begun ≡ length s.head.client_names.names
+  pub zeros : (client : ℕ) → begun_of s.begun client ≡ 0
+  pub count : s.count ≡ 0
+  pub rounds : s.rounds ≡ []
+  pub changes : s.changes ≡ 0
 
 -- the rounds, with the one that goes on
 abbrev pub every : State → List RoundLog
 every s = s.rounds ++ s.round ∷ []
 
 pub record InRound (s : State) : Type 0 where
-  head : IsHead s.head
-  version : IsVersion s.head.version
-  counts : length s.begun ≡ length s.head.client_names.names
-  begun : (client : ℕ) → begun_of s.begun client ≤ 16384
-  attempts : (client : ℕ) → sum (map (begins_in client) (every s)) ≤ begun_of s.begun client
-  count : length (every s) ≡ s.count
-  few : s.count ≤ 16
-  changed : sum (map globals_in (every s)) ≡ s.changes
-  few_changes : s.changes ≤ 256
-  shapes : ShapesAt s.head (every s)
+  pub head : IsHead s.head
+  pub version : IsVersion s.head.version
+  pub counts : length s.begun ≡ length s.head.client_names.names
+  pub begun : (client : ℕ) → begun_of s.begun client ≤ 16384
+  pub attempts : (client : ℕ) → sum (map (begins_in client) (every s)) ≤ begun_of s.begun client
+  pub count : length (every s) ≡ s.count
+  pub few : s.count ≤ 16
+  pub changed : sum (map globals_in (every s)) ≡ s.changes
+  pub few_changes : s.changes ≤ 256
+  pub shapes : ShapesAt s.head (every s)
 
 abbrev pub KeptIn : Section → State → Type 0
 KeptIn sections.Start s = InHead s
@@ -315,7 +315,7 @@ KeptIn sections.Cell s = InRound s
 KeptIn sections.Journal s = InRound s
 KeptIn sections.Globals s = InRound s
 KeptIn sections.Changes s = InRound s
-KeptIn sections.Ended s = HasShape (history s.head s.rounds)
+KeptIn sections.Ended s = HasShape (history s.head s.rounds) × (1 ≤ s.count)
 
 abbrev pub IsKept : State → Type 0
 IsKept s = KeptIn s.section s
@@ -342,7 +342,7 @@ in_round test a b c d e s sections.Globals t h = h
 in_round test a b c d e s sections.Changes t h = h
 in_round test a b c d e s sections.Ended t h = absurd (cc (e, t))
 
-from_start : (s : State) (x : Section) → at_start x ≡ true → KeptIn x s → InHead s
+pub from_start : (s : State) (x : Section) → at_start x ≡ true → KeptIn x s → InHead s
 from_start s sections.Start t h = h
 from_start s sections.Opened t h = absurd cc
 from_start s sections.Clients t h = absurd cc
@@ -356,7 +356,7 @@ from_start s sections.Globals t h = absurd cc
 from_start s sections.Changes t h = absurd cc
 from_start s sections.Ended t h = absurd cc
 
-from_size : (s : State) (x : Section) → at_size x ≡ true → KeptIn x s → InHead s × IsVersion s.head.version
+pub from_size : (s : State) (x : Section) → at_size x ≡ true → KeptIn x s → InHead s × IsVersion s.head.version
 from_size s sections.Start t h = absurd cc
 from_size s sections.Opened t h = h
 from_size s sections.Clients t h = absurd cc
@@ -370,7 +370,7 @@ from_size s sections.Globals t h = absurd cc
 from_size s sections.Changes t h = absurd cc
 from_size s sections.Ended t h = absurd cc
 
-from_clients : (s : State) (x : Section) → in_clients x ≡ true → KeptIn x s → (x ≡ sections.Clients) × InHead s × IsVersion s.head.version
+pub from_clients : (s : State) (x : Section) → in_clients x ≡ true → KeptIn x s → (x ≡ sections.Clients) × InHead s × IsVersion s.head.version
 from_clients s sections.Start t h = absurd cc
 from_clients s sections.Opened t h = absurd cc
 from_clients s sections.Clients t h = (refl, h.0, h.1)
@@ -384,7 +384,7 @@ from_clients s sections.Globals t h = absurd cc
 from_clients s sections.Changes t h = absurd cc
 from_clients s sections.Ended t h = absurd cc
 
-from_keys : (s : State) (x : Section) → in_keys x ≡ true → KeptIn x s → InHead s × IsVersion s.head.version
+pub from_keys : (s : State) (x : Section) → in_keys x ≡ true → KeptIn x s → InHead s × IsVersion s.head.version
 from_keys s sections.Start t h = absurd cc
 from_keys s sections.Opened t h = absurd cc
 from_keys s sections.Clients t h = h
@@ -424,21 +424,21 @@ record HasRounds (s : State) (rounds : List RoundLog) : Type 0 where
   few_changes : s.changes ≤ 256
   shapes : ShapesAt s.head rounds
 
-closed_head : (s : State) → InHead s → closed s ≡ []
+pub closed_head : (s : State) → InHead s → closed s ≡ []
 closed_head s h = at s.count h.count
   where
     at : (n : ℕ) → n ≡ 0 → cond (eqb n 0) s.rounds (s.rounds ++ s.round ∷ []) ≡ []
     at zero e = h.rounds
     at (suc n) e = absurd (omega (arith, e))
 
-closed_round : (s : State) → InRound s → closed s ≡ every s
+pub some_count : (s : State) → InRound s → 1 ≤ s.count
+some_count s h = omega (arith, h.count, length-append s.rounds (s.round ∷ []))
+
+pub closed_round : (s : State) → InRound s → closed s ≡ every s
 closed_round s h = here (eqb s.count 0) refl
   where
-    some : 1 ≤ s.count
-    some = omega (arith, h.count, length-append s.rounds (s.round ∷ []))
-
     here : (b : Bool) → eqb s.count 0 ≡ b → cond b s.rounds (s.rounds ++ s.round ∷ []) ≡ every s
-    here true e = let z = eqb-true s.count 0 e in absurd (omega (arith, z, some))
+    here true e = let z = eqb-true s.count 0 e in absurd (omega (arith, z, some_count s h))
     here false e = refl
 
 rounds_head : (s : State) → InHead s → IsVersion s.head.version → HasRounds s []
@@ -642,7 +642,7 @@ kept_after s (Changed entry) h k =
     moved (record s { begun = s.begun; round = round; changes = s.changes + 1 }) (after s (Changed entry)) refl refl refl refl refl refl next
 kept_after s Ends h k =
     let b = in_round at_end refl refl refl refl refl s s.section k h in
-    subst (λ (x : List RoundLog). HasShape (history s.head x)) (sym (closed_round s b)) (whole s b)
+    (subst (λ (x : List RoundLog). HasShape (history s.head x)) (sym (closed_round s b)) (whole s b), some_count s b)
 
 kept_taken : (s : State) (r : Result TraceLine TextFault) (t : State) → Gives (Fits s) r → taken s r ≡ Ok t → IsKept s → IsKept t
 kept_taken s (Ok line) t g e h = subst (λ (x : State). IsKept x) (ok_is (after s line) t e) (kept_after s line h g.is)
@@ -661,7 +661,7 @@ kept_ended s n bytes h = here (line_result s bytes) refl
     here (Ok t) e = kept_line s bytes t e h
     here (Err why) e = h
 
-kept_byte : (s : State) (fault : Option Refusal) (n : ℕ) (held : List ℕ) (b : ℕ) → IsKept s → IsKept (byte_behind s fault n held b).state
+pub kept_byte : (s : State) (fault : Option Refusal) (n : ℕ) (held : List ℕ) (b : ℕ) → IsKept s → IsKept (byte_behind s fault n held b).state
 kept_byte s (Some refusal) n held b h = h
 kept_byte s None n held b h = here (eqb b 10)
   where
@@ -689,7 +689,7 @@ ended_shape s e h = at s.section e h
     at sections.Journal e h = absurd cc
     at sections.Globals e h = absurd cc
     at sections.Changes e h = absurd cc
-    at sections.Ended e h = h
+    at sections.Ended e h = h.0
 
 pub finished_ended : (s : State) (fault : Option Refusal) (n : ℕ) (held : List ℕ) (t : State)
     → finished (record { state = s; fault = fault; number = n; held = held }) ≡ Ok t → ended s.section ≡ true

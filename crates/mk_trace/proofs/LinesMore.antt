@@ -24,18 +24,18 @@ shifted n m = omega arith
 zero_plus : (n k : ℕ) → n ≡ k → 0 + n ≡ k
 zero_plus n k e = omega (arith, e)
 
-client_lines-more : (names : List (List ℕ)) (n : ℕ) (xs : List ℕ) (x : ℕ)
+pub client_lines-more : (names : List (List ℕ)) (n : ℕ) (xs : List ℕ) (x : ℕ)
     → client_lines names n (xs ++ x ∷ []) ≡ client_lines names n xs ++ Declares (key_name names (n + length xs)) x ∷ []
 client_lines-more names n [] x = ap (λ (k : ℕ). Declares (key_name names k) x ∷ []) (right_zero n)
 client_lines-more names n (y ∷ ys) x =
     ap (λ (l : List TraceLine). Declares (key_name names n) y ∷ l)
     (client_lines-more names (n + 1) ys x ∙ ap (λ (k : ℕ). client_lines names (n + 1) ys ++ Declares (key_name names k) x ∷ []) (shifted n (length ys)))
 
-step_lines-more : (begun : List ℕ) (xs : List Step) (x : Step) → step_lines begun (xs ++ x ∷ []) ≡ step_lines begun xs ++ step_line (begun_through begun xs) x ∷ []
+pub step_lines-more : (begun : List ℕ) (xs : List Step) (x : Step) → step_lines begun (xs ++ x ∷ []) ≡ step_lines begun xs ++ step_line (begun_through begun xs) x ∷ []
 step_lines-more begun [] x = refl
 step_lines-more begun (y ∷ ys) x = ap (λ (l : List TraceLine). step_line begun y ∷ l) (step_lines-more (begun_after begun y) ys x)
 
-begun_through-more : (begun : List ℕ) (xs : List Step) (x : Step) → begun_through begun (xs ++ x ∷ []) ≡ begun_after (begun_through begun xs) x
+pub begun_through-more : (begun : List ℕ) (xs : List Step) (x : Step) → begun_through begun (xs ++ x ∷ []) ≡ begun_after (begun_through begun xs) x
 begun_through-more begun [] x = refl
 begun_through-more begun (y ∷ ys) x = begun_through-more (begun_after begun y) ys x
 
@@ -73,11 +73,11 @@ abbrev pub begun_by : List ℕ → List RoundLog → List ℕ
 begun_by begun [] = begun
 begun_by begun (round ∷ rounds) = begun_by (begun_in begun round.logs) rounds
 
-begun_by-more : (begun : List ℕ) (xs : List RoundLog) (x : RoundLog) → begun_by begun (xs ++ x ∷ []) ≡ begun_in (begun_by begun xs) x.logs
+pub begun_by-more : (begun : List ℕ) (xs : List RoundLog) (x : RoundLog) → begun_by begun (xs ++ x ∷ []) ≡ begun_in (begun_by begun xs) x.logs
 begun_by-more begun [] x = refl
 begun_by-more begun (y ∷ ys) x = begun_by-more (begun_in begun y.logs) ys x
 
-rounds_lines-more : (begun : List ℕ) (n : ℕ) (xs : List RoundLog) (x : RoundLog)
+pub rounds_lines-more : (begun : List ℕ) (n : ℕ) (xs : List RoundLog) (x : RoundLog)
     → rounds_lines begun n (xs ++ x ∷ []) ≡ rounds_lines begun n xs ++ round_lines (begun_by begun xs) (n + length xs) x
 rounds_lines-more begun n [] x = append-nil (round_lines begun n x) ∙ ap (λ (k : ℕ). round_lines begun k x) (right_zero n)
 rounds_lines-more begun n (y ∷ ys) x =
@@ -229,7 +229,7 @@ rounds_goes clients keys out old new begun b c xs i d x lt ex eo eb en ec =
       ec ∙ ap (λ (y : List ℕ). begun_in y x.logs) eb ∙ ap (λ (y : RoundLog). begun_in before y.logs) ex ∙ sym (rounds_begun_turn begun xs i d lt),
     )
 
-zeros-more : (xs : List ℕ) (x : ℕ) → zeros (xs ++ x ∷ []) ≡ zeros xs ++ 0 ∷ []
+pub zeros-more : (xs : List ℕ) (x : ℕ) → zeros (xs ++ x ∷ []) ≡ zeros xs ++ 0 ∷ []
 zeros-more [] x = refl
 zeros-more (y ∷ ys) x = ap (λ (l : List ℕ). 0 ∷ l) (zeros-more ys x)
 

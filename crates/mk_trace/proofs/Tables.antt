@@ -1,7 +1,6 @@
 -- Tables with one member more at a place.
-use Rattle.std.proofs.Common.{◌≡◌, ℕ, zero, suc, ◌+◌, ◌<◌, ◌≤◌, List, [], ◌∷◌, ◌++◌, length, map, get_or, set, replicate, refl, sym, ap, ◌∙◌, arith}
-use Rattle.std.proofs.lemmas.List.{map-append, length-map}
-use Rattle.std.proofs.lemmas.Grind.{replicate_next}
+use Rattle.std.proofs.Common.{◌≡◌, ℕ, zero, suc, ◌<◌, ◌≤◌, List, [], ◌∷◌, ◌++◌, length, map, get_or, set, refl, ap, arith}
+use Rattle.std.proofs.lemmas.List.{length-map}
 use Rattle.mk_words.specs.declared.JournalEntry.{JournalEntry}
 use Rattle.mk_trace.specs.Begun.{risen, raised}
 use Rattle.mk_trace.specs.States.{extended, journaled}

@@ -1,6 +1,10 @@
 -- The run of a whole text.
-use Rattle.std.proofs.Common.{◌≡◌, ℕ, List, ◌++◌, Option, Some, None, Ok, Err, sym, ap, subst, ◌∙◌}
+use Rattle.std.proofs.Common.{◌≡◌, ℕ, List, ◌++◌, Option, Some, None, Result, Ok, Err, sym, ap, subst, ◌∙◌}
+use Rattle.std.specs.Prelude.{IfOk, Vec}
+use Rattle.std.specs.Global.{Global}
 use Rattle.std.proofs.lemmas.Option.{same_Some}
+use Rattle.mk_spelling.specs.Lines.{Refusal}
+use Rattle.mk_history.specs.Histories.{History}
 use Rattle.mk_history.specs.Shape.{HasShape}
 use Rattle.mk_kept.specs.Heads.{history}
 use Rattle.mk_trace.specs.declared.error.TraceError.{TraceError}
@@ -8,10 +12,13 @@ use Rattle.mk_trace.specs.declared.error.TraceError.TheVariants as errors
 use Rattle.mk_trace.specs.declared.tracing.Standing.{Standing}
 use Rattle.mk_trace.specs.declared.tracing.Standing.TheVariants as standings
 use Rattle.mk_history.specs.declared.RoundLog.{RoundLog}
+use Rattle.mk_trace.specs.Traces.{trace_text}
 use Rattle.mk_trace.specs.States.{State}
 use Rattle.mk_trace.specs.Grammar.{state_text}
 use Rattle.mk_trace.specs.Pieces.{Reading, started, fed, finished}
 use Rattle.mk_trace.specs.Answers.{reading_of, fed_behind, Finishes, Answers, run_of, run_text, with_rounds}
+use Rattle.mk_trace.proofs.BothWays.{read_back}
+use Rattle.mk_trace.proofs.OneSpelling.{one_spelling}
 use Rattle.mk_trace.proofs.PieceLaws.{finished_text}
 use Rattle.mk_trace.proofs.KeepLaws.{IsKept, nothing_kept, kept_fed, ended_shape, finished_ended, shapes_read}
 
@@ -53,3 +60,18 @@ pub handed_shape : (text : List ℕ) (taken : List RoundLog) (r : Reading) → f
 handed_shape text taken r e f =
     ended_shape (with_rounds taken r).state (finished_ended r.state r.fault r.number r.held r.state f)
     (subst (λ (x : Reading). IsKept x.state) e (kept_fed started text nothing_kept))
+
+-- what a call that answers a text's run answers
+pub found_law : (result : Result History TraceError) (bytes : List ℕ) → Answers result (run_text bytes) → IfOk result (λ run. bytes ≡ trace_text run)
+found_law (Ok run) bytes h = one_spelling bytes run h
+found_law (Err e) bytes h = tt
+
+pub only_law : (result : Result History TraceError) (bytes : List ℕ) (run : History) → HasShape run → bytes ≡ trace_text run → Answers result (run_text bytes)
+    → Answers result (Ok run)
+only_law result bytes run shape same h = subst (λ (r : Result History Refusal). Answers result r) (ap run_text same ∙ read_back run shape) h
+
+-- a text that was written is read back
+pub written_law : {E : Type 0} (result : Result (Vec ℕ Global) E) (run : History) → HasShape run → IfOk result (λ bytes. bytes.items ≡ trace_text run)
+    → IfOk result (λ bytes. run_text bytes.items ≡ Ok run)
+written_law (Ok bytes) run shape h = ap run_text h ∙ read_back run shape
+written_law (Err e) run shape h = tt

@@ -100,6 +100,11 @@ run_of (Err refusal) = Err refusal
 abbrev pub run_text : List ℕ → Result History Refusal
 run_text bytes = run_of (state_text bytes)
 
+-- the same answer, with these rounds in front
+abbrev pub answer_with : List RoundLog → Result State Refusal → Result State Refusal
+answer_with taken (Ok s) = Ok (record s { rounds = taken ++ s.rounds })
+answer_with taken (Err refusal) = Err refusal
+
 -- the call answers this, unless memory ran out
 abbrev pub Answers : Result History TraceError → Result History Refusal → Type 0
 Answers (Ok run) answer = answer ≡ Ok run

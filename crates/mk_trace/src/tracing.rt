@@ -1,7 +1,10 @@
 //! A run from its trace, which may come in pieces.
-ghost use Rattle.std.specs.Prelude.{◌≡◌, [], true, Some, IfSome};
+ghost use Rattle.std.specs.Prelude.{◌≡◌, [], true, Some, Ok, IfSome, IfOk};
+ghost use Rattle.mk_history.specs.Histories.{History};
+ghost use Rattle.mk_history.specs.Shape.{HasShape};
 ghost use Rattle.mk_spelling.specs.Lines.{next_number};
 ghost use Rattle.mk_trace.specs.Pieces as spec;
+ghost use Rattle.mk_trace.specs.Traces.{trace_text};
 ghost use Rattle.mk_trace.specs.Answers.{Fed, HeadIs, Takes, Finishes, Told, Leaves, is_reading, held_behind, ended_behind, Answers, run_text};
 
 use crate::error::{LineError, TraceError};
@@ -188,6 +191,17 @@ impl TraceReader {
 
 /// The run that the bytes are the trace of; else the first faulty line and its first fault.
 pub fn read_trace(alloc: Global, bytes: &[u8]) -> Result<Run, TraceError>
+    // What is read is the trace of the run.
+    ensures found { IfOk result (λ run. bytes.now ≡ trace_text run) }
+    // The trace of a run is read, unless memory runs out.
+    ensures only { (run : History) → HasShape run → bytes.now ≡ trace_text run → Answers result (Ok run) }
+    // Which line is refused, and why.
+    ensures exact { Answers result (run_text bytes.now) }
+{
+    read_text(alloc, bytes)
+}
+
+fn read_text(alloc: Global, bytes: &[u8]) -> Result<Run, TraceError>
     ensures exact { Answers result (run_text bytes.now) }
 {
     let mut reader = TraceReader::new(alloc);

@@ -1,8 +1,10 @@
 //! The text of a run.
-ghost use Rattle.std.specs.Prelude.{◌≡◌, ◌+◌, ◌++◌, ◌∷◌, [], OnOk, IfOk, map};
+ghost use Rattle.std.specs.Prelude.{◌≡◌, ◌+◌, ◌++◌, ◌∷◌, [], Ok, OnOk, IfOk, map};
 ghost use Rattle.std.specs.String.{string_bytes};
 ghost use Rattle.mk_trace_lines.specs.TraceLines.{text_of, line_text, key_name};
 ghost use Rattle.mk_trace_lines.specs.TraceLines.TraceLine.{Opens, Sizes, Declares, Begins};
+ghost use Rattle.mk_history.specs.Shape.{HasShape};
+ghost use Rattle.mk_trace.specs.Answers.{run_text};
 ghost use Rattle.mk_trace.specs.Begun as counts;
 ghost use Rattle.mk_trace.specs.Traces as spec;
 
@@ -18,6 +20,15 @@ use std::alloc::{AllocError, Global};
 /// The trace of the run.
 pub fn write_trace(alloc: Global, run: &Run) -> Result<Vec<u8>, NoMemory>
     ensures text { IfOk result (λ bytes. bytes.items ≡ spec.trace_text run.now) }
+    // It is read back as the same run.
+    ensures found { IfOk result (λ bytes. run_text bytes.items ≡ Ok run.now) }
+{
+    write_text(alloc, run)
+}
+
+fn write_text(alloc: Global, run: &Run) -> Result<Vec<u8>, NoMemory>
+    ensures text { IfOk result (λ bytes. bytes.items ≡ spec.trace_text run.now) }
+    ensures shape { HasShape run.now }
 {
     let head = run.head();
     let clients = &head.client_names;
