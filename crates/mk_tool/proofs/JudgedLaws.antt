@@ -1,6 +1,6 @@
--- A judge that is shown the rounds of a run in turn.
-use Rattle.std.proofs.Common.{◌≡◌, ◌∙◌, ◌+◌, ◌<◌, ◌≤◌, ℕ, refl, sym, ap, subst, arith, List, [], ◌∷◌, ◌++◌, length, take, drop, get_or, drop-cons, add-one}
-use Rattle.std.proofs.lemmas.List.{append-nil, take-append-drop, take_all, take_more}
+-- What a judge says of the rounds that it was shown.
+use Rattle.std.proofs.Common.{◌≡◌, ◌∙◌, ℕ, refl, sym, ap, subst, List, [], ◌∷◌, ◌++◌}
+use Rattle.std.proofs.lemmas.List.{append-nil}
 use Rattle.mk_history.specs.declared.RoundLog.{RoundLog}
 use Rattle.mk_history.specs.Histories.{History}
 use Rattle.mk_history.specs.Shape.{HasShape}
@@ -14,71 +14,27 @@ use Rattle.mk_verdict.specs.Flaws.{verdict_of}
 use Rattle.mk_run_laws.proofs.Cutting.{cuts_have_shape}
 use Rattle.mk_run.specs.declared.line.Tally.{Tally}
 use Rattle.mk_run.specs.Attempts.{outcomes_of, tally_of}
-use Rattle.mk_run.specs.Judging.{JudgeView, StandsForRounds, MayTake}
-use Rattle.mk_tool.specs.Checked.{HasSeen}
+use Rattle.mk_run.specs.Judging.{JudgeView, StandsForRounds}
 use Rattle.mk_tool.specs.VerdictTexts.{legal_text, broken_text, verdict_text, check_text}
 
-rounds_here : (rounds : List RoundLog) (i : ℕ) (d : RoundLog) → i < length rounds → rounds ≡ take i rounds ++ get_or rounds i d ∷ drop (i + 1) rounds
-rounds_here rounds i d lt =
-    sym (take-append-drop i rounds)
-    ∙ ap (λ (rest : List RoundLog). take i rounds ++ rest) (drop-cons rounds i d lt ∙ ap (λ (n : ℕ). get_or rounds i d ∷ drop n rounds) (sym (add-one i)))
-
 -- the first rounds of a run have the shape of a run
-next-shape : (run : History) (head : Head) (i : ℕ) (d : RoundLog) → history head run.rounds ≡ run → HasShape run → i < length run.rounds →
-    HasShape (history head (take i run.rounds ++ get_or run.rounds i d ∷ []))
-next-shape run head i d parts shape lt =
-    let round = get_or run.rounds i d in
-    let rounds = take i run.rounds ++ round ∷ [] in
-    subst (λ (r : History). HasShape (record r { rounds = rounds })) (sym parts)
-    (cuts_have_shape run (take i run.rounds) (drop (i + 1) run.rounds) round round.globals [] shape (rounds_here run.rounds i d lt) (sym (append-nil round.globals)))
+pub first-shape : (head : Head) (done rest : List RoundLog) (round : RoundLog) → HasShape (history head (done ++ round ∷ rest)) → HasShape (history head (done ++ round ∷ []))
+first-shape head done rest round shape =
+    cuts_have_shape (history head (done ++ round ∷ rest)) done rest round round.globals [] shape refl (sym (append-nil round.globals))
 
--- the next round of a run, and the rounds with it
-module _ (run : History) (items : List RoundLog) (i : ℕ) (round : RoundLog) (same : items ≡ run.rounds) (within : i < length items) (at : round ≡ get_or items i round) where
-  lt : i < length run.rounds
-  lt = subst (λ (rs : List RoundLog). i < length rs) same within
+-- what a judge tells of runs with a head that is its own
+module _ (head : Head) (judge : JudgeView) (same : judge.head ≡ head) (rounds : List RoundLog) (stands : StandsForRounds judge rounds) (shape : HasShape (history head rounds)) where
+  own : HasShape (history judge.head rounds)
+  own = subst (λ (h : Head). HasShape (history h rounds)) (sym same) shape
 
-  here : round ≡ get_or run.rounds i round
-  here = at ∙ ap (λ (rs : List RoundLog). get_or rs i round) same
+  pub told-verdict : (result : Verdict) →
+      ((rounds : List RoundLog) → StandsForRounds judge rounds → HasShape (history judge.head rounds) → result ≡ verdict_of (history judge.head rounds)) → result ≡ verdict_of (history head rounds)
+  told-verdict result told = told rounds stands own ∙ ap (λ (h : Head). verdict_of (history h rounds)) same
 
-  with_it : take i run.rounds ++ round ∷ [] ≡ take (i + 1) run.rounds
-  with_it = ap (λ (r : RoundLog). take i run.rounds ++ r ∷ []) here ∙ sym (take_more run.rounds i round lt)
-
-  pub may-take : (judge : JudgeView) → HasShape run → StandsForRounds judge (take i run.rounds) → history judge.head run.rounds ≡ run → MayTake judge (take i run.rounds) round
-  may-take judge shape stands parts = record {
-    stands = stands;
-    shape = subst (λ (r : RoundLog). HasShape (history judge.head (take i run.rounds ++ r ∷ []))) (sym here) (next-shape run judge.head i round parts shape lt);
-  }
-
-  pub stands-next : (judge : JudgeView) → StandsForRounds judge (take i run.rounds ++ round ∷ []) → StandsForRounds judge (take (i + 1) run.rounds)
-  stands-next judge stands = subst (λ (rs : List RoundLog). StandsForRounds judge rs) with_it stands
-
--- behind all rounds
-pub seen-all : (run : History) (judge : JudgeView) (items : List RoundLog) (i : ℕ) → HasShape run → StandsForRounds judge (take i run.rounds) → history judge.head run.rounds ≡ run →
-    items ≡ run.rounds → length items ≤ i → HasSeen judge run
-seen-all run judge items i shape stands parts same past = record {
-  stands = subst (λ (rs : List RoundLog). StandsForRounds judge rs) (take_all i run.rounds (subst (λ (rs : List RoundLog). length rs ≤ i) same past)) stands;
-  parts = parts;
-  shape = shape;
-}
-
-pub some-taken : (run : History) (judge : JudgeView) → HasSeen judge run → 1 ≤ judge.taken
-some-taken run judge seen =
-    let count = seen.stands.taken in
-    let some = seen.shape.some_round in
-    omega (arith, count, some)
-
-head-shape : (run : History) (judge : JudgeView) → HasSeen judge run → HasShape (history judge.head run.rounds)
-head-shape run judge seen = subst HasShape (sym seen.parts) seen.shape
-
--- what the judge tells of the run
-pub told-verdict : (run : History) (judge : JudgeView) (result : Verdict) → HasSeen judge run →
-    ((rounds : List RoundLog) → StandsForRounds judge rounds → HasShape (history judge.head rounds) → result ≡ verdict_of (history judge.head rounds)) → result ≡ verdict_of run
-told-verdict run judge result seen told = told run.rounds seen.stands (head-shape run judge seen) ∙ ap verdict_of seen.parts
-
-pub told-tally : (run : History) (judge : JudgeView) (result : Tally) → HasSeen judge run →
-    ((rounds : List RoundLog) → StandsForRounds judge rounds → HasShape (history judge.head rounds) → result ≡ tally_of (outcomes_of (history judge.head rounds))) → result ≡ tally_of (outcomes_of run)
-told-tally run judge result seen told =
-    told run.rounds seen.stands (head-shape run judge seen) ∙ ap (λ (r : History). tally_of (outcomes_of r)) seen.parts
+  pub told-tally : (result : Tally) →
+      ((rounds : List RoundLog) → StandsForRounds judge rounds → HasShape (history judge.head rounds) → result ≡ tally_of (outcomes_of (history judge.head rounds))) →
+      result ≡ tally_of (outcomes_of (history head rounds))
+  told-tally result told = told rounds stands own ∙ ap (λ (h : Head). tally_of (outcomes_of (history h rounds))) same
 
 -- the text of a legal run, and that of a run with a flaw
 pub legal-text : (run : History) (result : Verdict) (tally : Tally) → result ≡ verdict_of run → result ≡ Legal → tally ≡ tally_of (outcomes_of run) → legal_text tally ≡ check_text run

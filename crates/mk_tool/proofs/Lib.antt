@@ -1,2 +1,3 @@
 pub mod JudgedLaws
 pub mod ReadLaws
+pub mod StreamLaws

@@ -1,5 +1,5 @@
 -- The bytes that a source held, and the run that they are the trace of.
-use Rattle.std.proofs.Common.{◌≡◌, ℕ, ◌≤◌, List, [], Option, None, Some, Ok, Err, length, refl, subst, sym, ap, ◌∙◌, arith}
+use Rattle.std.proofs.Common.{Result, IfOk, IfErr, ◌≡◌, ℕ, ◌≤◌, List, Option, None, Some, Ok, Err, length, subst, sym, ap, ◌∙◌, arith}
 use Rattle.std.proofs.Math.Seq.{drop-length}
 use Rattle.mk_spelling.specs.declared.fault.TextFault.{TextFault}
 use Rattle.mk_io.specs.Wholes.{TakesAll, TakesAtMost}
@@ -38,3 +38,10 @@ pub faulty : (old new : Option (List ℕ)) (bytes : List ℕ) (line : ℕ) (why 
 faulty None new bytes line why h within is = tt
 faulty (Some left) new bytes line why h within is =
     (subst (λ (b : List ℕ). length b ≤ trace_limit) h.0 within, subst (λ (b : List ℕ). run_text b ≡ Err (line, why)) h.0 is)
+
+pub if_ok_map : {A E : Type 0} (result : Result A E) (P Q : A → Type 0) → IfOk result P → ((a : A) → P a → Q a) → IfOk result Q
+if_ok_map (Ok a) P Q h f = f a h
+if_ok_map (Err e) P Q h f = tt
+
+pub if_err_at : {A E : Type 0} (result : Result A E) (e : E) (P : E → Type 0) → IfErr result P → result ≡ Err e → P e
+if_err_at result e P h is = subst (λ r. IfErr r P) is h

@@ -6,8 +6,6 @@ use Rattle.mk_history.specs.Shape.{HasShape}
 use Rattle.mk_verdict.specs.declared.Verdict.{Verdict}
 use Rattle.mk_verdict.specs.declared.Verdict.TheVariants.{Legal, Broken}
 use Rattle.mk_verdict.specs.Flaws.{verdict_of}
-use Rattle.mk_kept.specs.Heads.{history}
-use Rattle.mk_run.specs.Judging.{JudgeView, StandsForRounds}
 use Rattle.mk_trace.specs.Answers.{run_text}
 use Rattle.mk_ending.specs.declared.why.Why.{Why}
 use Rattle.mk_ending.specs.declared.why.Why.TheVariants.{Usage, Refused, SourceFault, TooLong, SinkFault, NoMemory, NoAttempt}
@@ -46,12 +44,6 @@ IsRefused bytes SourceFault = ⊥
 IsRefused bytes TooLong = ⊥
 IsRefused bytes SinkFault = ⊥
 IsRefused bytes NoAttempt = ⊥
-
--- the judge was shown all rounds of the run
-pub record HasSeen (judge : JudgeView) (run : History) : Type 0 where
-  pub stands : StandsForRounds judge run.rounds
-  pub parts : history judge.head run.rounds ≡ run
-  pub shape : HasShape run
 
 -- the source held a run with this verdict, of which this is the text
 pub record IsChecked (left : Option (List ℕ)) (verdict : Verdict) (text : List ℕ) : Type 0 where

@@ -4,6 +4,7 @@
 mod judging;
 mod reading;
 mod spelling;
+mod stream;
 mod tool;
 
 pub use mk_ending::{TextFault, Why};

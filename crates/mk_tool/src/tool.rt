@@ -66,8 +66,8 @@ fn is_check(words: &[String]) -> bool
 
 /// Judges the trace that the source holds and writes the verdict to the sink, where the words are the one word `check`.
 /// All else is refused: with other words nothing is read, and where a refusal other than the sink's comes nothing is
-/// written. The source is read to its end, its limit or a fault before its bytes are judged, and all the memory that
-/// writing needs is taken before the first write.
+/// written. The trace is judged while it is read, round by round, and the source is read to its end, its limit or a fault.
+/// All the memory that writing needs is taken before the first write.
 pub fn tool_top<S: Source, K: Sink>(
     alloc: Global,
     words: &[String],

@@ -1,14 +1,42 @@
-use Rattle.std.proofs.Common.{◌≡◌, ◌∙◌, Ok, sym, ap}
 use Rattle.std.specs.String.{string_bytes}
-use Rattle.mk_trace.specs.Answers.{run_text}
-use Rattle.mk_tool.proofs.ReadLaws.{checked}
+use Rattle.mk_ending.specs.declared.why.Why.TheVariants as reasons
+use Rattle.mk_tool.proofs.ReadLaws.{checked, faulty, if_ok_map, if_err_at}
 use Rattle.mk_tool.proofs.reading.judgement_from.Goals as goal
 
 pub returns-clause-ok : goal.returns-clause-ok
 returns-clause-ok g c =
-    let bytes = c.in_ok-bytes.bytes.items in
-    let run = c.in_ok-run.run' in
-    let whole = c.in_ok-bytes.ensures.whole in
-    let is : run_text bytes ≡ Ok run = sym (ap run_text c.as_slice.ensures.value) ∙ c.in_ok-run.ensures.ok in
-    let judged = c.in_ok-judge.ensures in
-    checked _ _ bytes run c.in_ok-judge.field-0.verdict (string_bytes c.in_ok-judge.field-0.text) whole.0 whole.1 is judged.shape judged.verdict judged.text
+    let whole = c.in_ok-stream.ensures.whole in
+    if_ok_map c.judgement.result _ _ c.judgement.ensures.ok
+    (λ j says.
+    let judged = says whole.0 whole.3 in
+    checked _ _ whole.0 judged.run j.verdict (string_bytes j.text) whole.1 whole.2 judged.trace judged.shape judged.verdict_is judged.text_is)
+
+pub returns-clause-refused : goal.returns-clause-refused
+returns-clause-refused g c = λ line why is.
+    let whole = c.in_ok-stream.ensures.whole in
+    faulty _ _ whole.0 line why whole.1 whole.2 (if_err_at c.judgement.result (reasons.Refused line why) _ c.judgement.ensures.err is whole.0 whole.3)
+
+pub returns-clause-too_long : goal.returns-clause-too_long
+returns-clause-too_long g c = λ is.
+    let whole = c.in_ok-stream.ensures.whole in
+    absurd (if_err_at c.judgement.result reasons.TooLong _ c.judgement.ensures.err is whole.0 whole.3)
+
+pub returns-clause-fault : goal.returns-clause-fault
+returns-clause-fault g c = λ is.
+    let whole = c.in_ok-stream.ensures.whole in
+    absurd (if_err_at c.judgement.result reasons.SourceFault _ c.judgement.ensures.err is whole.0 whole.3)
+
+pub returns-clause-no_usage : goal.returns-clause-no_usage
+returns-clause-no_usage g c = λ is.
+    let whole = c.in_ok-stream.ensures.whole in
+    if_err_at c.judgement.result reasons.Usage _ c.judgement.ensures.err is whole.0 whole.3
+
+pub returns-clause-no_sink : goal.returns-clause-no_sink
+returns-clause-no_sink g c = λ is.
+    let whole = c.in_ok-stream.ensures.whole in
+    if_err_at c.judgement.result reasons.SinkFault _ c.judgement.ensures.err is whole.0 whole.3
+
+pub returns-clause-no_attempt : goal.returns-clause-no_attempt
+returns-clause-no_attempt g c = λ is.
+    let whole = c.in_ok-stream.ensures.whole in
+    if_err_at c.judgement.result reasons.NoAttempt _ c.judgement.ensures.err is whole.0 whole.3
