@@ -1,1 +1,2 @@
 pub mod FormLaws
+mod FastLaws

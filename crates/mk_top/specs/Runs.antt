@@ -1,8 +1,13 @@
 -- The run of a script that a form of words asks for, and the text of that run.
-use Rattle.std.specs.Prelude.{ℕ, Bool, List, [], ◌∷◌, ◌++◌, codes, Option}
+use Rattle.std.specs.Prelude.{◌≡◌, ℕ, Bool, false, List, [], ◌∷◌, ◌++◌, codes, Option}
 use Rattle.std.specs.Fmt.{decimal}
 use Rattle.std.specs.List.{list_any}
+use Rattle.mk_lists.specs.Among.{Each}
+use Rattle.mk_txn.specs.declared.Outcome.TheVariants.{Commit}
 use Rattle.mk_script.specs.Scripts.{ScriptParts}
+use Rattle.mk_script.specs.Quiet.{IsQuiet}
+use Rattle.mk_history.specs.declared.Path.TheVariants.{Fast}
+use Rattle.mk_history.specs.declared.State.TheVariants.{Learned}
 use Rattle.mk_history.specs.Histories.{History}
 use Rattle.mk_history.specs.Legality.{IsLegal}
 use Rattle.mk_history.specs.Safety.{IsSafe}
@@ -15,13 +20,23 @@ use Rattle.mk_top.specs.declared.form.Form.{Form}
 use Rattle.mk_top.specs.declared.form.Form.TheVariants.{Report, Trace, Json, Summary}
 use Rattle.mk_top.specs.Asked.{IsScriptOf}
 
--- a run of the script that the form asks for: it could have happened, it goes by the script, and it is safe
+-- nobody learned how some attempt of the run ended
+abbrev pub has_left : History → Bool
+has_left run = list_any (λ line. is_open line.state) (outcomes_of run)
+
+-- every attempt of the run committed, on the fast path
+abbrev pub AllFast : History → Type 0
+AllFast run = Each (λ line. line.state ≡ Learned Commit Fast) (outcomes_of run)
+
+-- a run of the script that the form asks for: it could have happened, it goes by the script, and it is safe; where the script is
+-- quiet, every attempt committed on the fast path, and none is left
 pub record IsRunOf (form : Form) (left : Option (List ℕ)) (run : History) : Type 0 where
   pub script : ScriptParts
   pub asked : IsScriptOf form left script
   pub driven : IsDriven script run
   pub legal : IsLegal run
   pub safe : IsSafe run
+  pub fast : IsQuiet script → AllFast run × (has_left run ≡ false)
 
 -- the first line of a summary
 abbrev pub load_line : Load → List ℕ
@@ -34,7 +49,3 @@ text_of Report run = report_of run
 text_of Trace run = trace_text run
 text_of Json run = json_of run
 text_of (Summary load) run = load_line load ++ summary_of run
-
--- nobody learned how some attempt of the run ended
-abbrev pub has_left : History → Bool
-has_left run = list_any (λ line. is_open line.state) (outcomes_of run)

@@ -13,7 +13,10 @@ ghost use Rattle.mk_store.specs.Words.{WordsRead, FaultsAreCounted, word_faults}
 ghost use Rattle.mk_top.specs.declared.form.Form.{Form as FormOfWords};
 ghost use Rattle.mk_top.specs.Forms as forms;
 ghost use Rattle.mk_top.specs.Asked.{script_limit, SaysFault, IsUnmade, is_of_reading};
-ghost use Rattle.mk_top.specs.Runs.{IsRunOf, text_of, has_left};
+ghost use Rattle.mk_history.specs.Shape.{HasShape};
+ghost use Rattle.mk_script.specs.Quiet.{IsQuiet};
+ghost use Rattle.mk_script.specs.Whole.{IsWhole};
+ghost use Rattle.mk_top.specs.Runs.{AllFast, IsRunOf, text_of, has_left};
 ghost use Rattle.mk_top.specs.Ends.{status_by, status_of, has_run, Tells, IsOfForm};
 
 use crate::done::Done;
@@ -41,7 +44,32 @@ fn are_safe(run: &Run)
     let _head = run.head();
 }
 
-/// Runs the script. The run is safe.
+/// A script keeps the limits of scripts. The function does nothing.
+fn keeps_limits(script: &Script)
+    ensures { IsWhole script.now }
+{
+    let _version = script.version;
+}
+
+/// A run that is kept has the shape of a run. The function does nothing.
+fn has_shape(run: &Run)
+    ensures { HasShape run.now }
+{
+    let _head = run.head();
+}
+
+/// Every attempt of a run by a quiet script commits on the fast path. The function does nothing.
+fn are_fast(script: &Script, run: &Run)
+    requires legal { IsLegal run.now }
+    requires driven { IsDriven script.now run.now }
+    ensures { IsQuiet script.now → AllFast run.now × (has_left run.now ≡ false) }
+{
+    mk_quiet_laws::quiet_scripts_commit_fast();
+    keeps_limits(script);
+    has_shape(run);
+}
+
+/// Runs the script. The run is safe, and fast where the script is quiet.
 fn run_safely<W: EpochWord, G: Gate + Sync, R: Threads + Wait + Sync>(
     rt: &R,
     alloc: Global,
@@ -55,11 +83,13 @@ fn run_safely<W: EpochWord, G: Gate + Sync, R: Threads + Wait + Sync>(
     ensures legal { IfOk result (λ run. IsLegal run) }
     ensures driven { IfOk result (λ run. IsDriven script.now run) }
     ensures safe { IfOk result (λ run. IsSafe run) }
+    ensures fast { IfOk result (λ run. IsQuiet script.now → AllFast run × (has_left run ≡ false)) }
     ensures words { IfOk result (λ run. WordsRead W.kept (last_state run).epochs epoch_words.new) }
     ensures faults { IfOk result (λ run. FaultsAreCounted W.faults epoch_words.old epoch_words.new (λ r. word_faults r run.rounds)) }
 {
     let run = run_script(rt, alloc, script, epoch_words, procs, gate)?;
     are_safe(&run);
+    are_fast(script, &run);
     Ok(run)
 }
 
@@ -198,7 +228,8 @@ pub fn run_top<S: Source, K: Sink, W: EpochWord, G: Gate + Sync, R: Threads + Wa
     // A run is there exactly where its text was written whole, or else the sink failed.
     ensures there { IsSome result.run ↔ (has_run result.why ≡ true) }
 
-    // It is a run of the script that the words ask for: it could have happened, goes by the script, and is safe.
+    // It is a run of the script that the words ask for: it could have happened, goes by the script, and is safe. Where the
+    // script is quiet, every attempt commits on the fast path and none is left, so the status is 0 unless the sink failed.
     ensures run { (form : FormOfWords) → forms.form_of (map string_bytes words.now) ≡ Some form → IfSome result.run (IsRunOf form (S.left source.old)) }
 
     // What was written is the text of this run that the words ask for, and a front of it where the sink failed.
