@@ -1,0 +1,4 @@
+-- The words of the feed.
+pub mod Feed
+pub mod MarkStamps
+pub mod Shown

@@ -1,0 +1,4 @@
+pub mod MarkStamps
+pub mod Late
+pub mod Closed
+pub mod Counted

@@ -1,0 +1,2 @@
+-- The law of the marks of the feed.
+pub mod Honest
