@@ -1,5 +1,5 @@
 -- Locks are taken apart, one after another.
-use Rattle.std.proofs.Common.{◌≡◌, ◌∙◌, ℕ, zero, suc, ◌+◌, ◌*◌, ◌<◌, ◌≤◌, Bool, true, false, cond, nat_eq, eq-eqb, List, [], ◌∷◌, ◌++◌, length, map, slice_get, slice_index_or, Some, refl, sym, ap, subst, arith, add-one}
+use Rattle.std.proofs.Common.{◌≡◌, ◌∙◌, ℕ, zero, suc, ◌+◌, ◌*◌, ◌<◌, ◌≤◌, Bool, true, false, cond, nat_eq, eq-eqb, List, [], ◌∷◌, ◌++◌, length, map, slice_get, slice_index_or, Some, refl, sym, ap, subst, arith}
 use Rattle.std.specs.Global.{Vec}
 use Rattle.crossbeam_utils.specs.declared.cache_padded.CachePadded.{CachePadded}
 use Rattle.crossbeam_utils.specs.Padded.{padded_value}
@@ -15,7 +15,7 @@ use Rattle.mk_words.specs.Journals.{Replays}
 use Rattle.mk_history.specs.Matching.{turns_in_log}
 use Rattle.mk_lock.specs.Entries.{of_seat}
 use Rattle.mk_lock.specs.Seats.{SeatView, LockView, IsJournalOf}
-use Rattle.mk_workers.specs.ByKey.{IsByKey, cell_at, journal_at, states_in, states_of}
+use Rattle.mk_workers.specs.ByKey.{cell_at, journal_at, states_in, states_of}
 use Rattle.mk_workers.specs.Closing.{IsLeft, AreLeft, AreClosedAt, IsClosedRow}
 use Rattle.mk_workers.specs.Pairs.{Pairs}
 use Rattle.mk_workers.specs.Seating.{locks_of, AreLocksOf, AreOpened, AreSeated, HasColumns, RowsHold}

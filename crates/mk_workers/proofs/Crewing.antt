@@ -1,5 +1,5 @@
 -- Workers are put together from the last column to the first, and taken apart from the first to the last.
-use Rattle.std.proofs.Common.{◌≡◌, ◌∙◌, ℕ, ◌<◌, List, [], ◌∷◌, ◌++◌, map, reverse, length, length-append, slice_get, Some, refl, sym, ap, subst, arith}
+use Rattle.std.proofs.Common.{◌≡◌, ◌∙◌, ◌<◌, List, [], ◌∷◌, ◌++◌, map, reverse, length, length-append, slice_get, refl, sym, ap, subst, arith}
 use Rattle.std.specs.Prelude.{IsOk}
 use Rattle.std.proofs.lemmas.List.{append-nil, map-append, append_assoc, length-map, length-reverse, reverse-append}
 use Rattle.std.proofs.lemmas.Option.{slice_get_within}

@@ -6,7 +6,7 @@ use Rattle.std.proofs.lemmas.Option.{slice_get_within, same_Some}
 use Rattle.mk_words.specs.declared.Step.{Step}
 use Rattle.mk_lock.specs.Seats.{SeatView, LockView}
 use Rattle.mk_workers.specs.Pairs.{Pairs, Until}
-use Rattle.mk_workers.specs.Seating.{IsSeatAt, HasSeats, HasColumns, RowsHold, RowsFit}
+use Rattle.mk_workers.specs.Seating.{IsSeatAt, HasSeats, HasColumns}
 use Rattle.mk_lists.proofs.Places.{slice_get-append_left, slice_get_push}
 use Rattle.mk_workers.proofs.PairLaws.{slice_get-inside, pairs_none, pairs_front, pairs_last, pairs_push, until_more, until_back}
 use Rattle.mk_workers.proofs.Makings.{length-replicated}

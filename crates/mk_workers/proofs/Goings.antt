@@ -4,7 +4,7 @@ use Rattle.std.proofs.lemmas.List.{append-nil, append_assoc}
 use Rattle.mk_trim.specs.declared.ReplicaView.{ReplicaView}
 use Rattle.mk_words.specs.declared.Step.{Step}
 use Rattle.mk_script.specs.Scripts.{ScriptParts}
-use Rattle.mk_faults.specs.Fates.{RuleLines, rules_of}
+use Rattle.mk_faults.specs.Fates.{RuleLines}
 use Rattle.mk_model.specs.ColumnState.{Setting, ColumnState}
 use Rattle.mk_model.specs.Conditions.{blocked}
 use Rattle.mk_model.specs.Steps.{column_after}
@@ -13,8 +13,7 @@ use Rattle.mk_column.specs.ColumnByCode.{ColumnView}
 use Rattle.mk_driver.specs.declared.Next.TheVariants.{Over}
 use Rattle.mk_driver.specs.Driven.{Standing, PastRound, IsNamed, IsTurned, first_standing, next_at, setting_in, standing_after, standing_past, standing_through, turn}
 use Rattle.mk_driver.specs.Drivers.{DriverView}
-use Rattle.mk_driver.specs.Standings.{Stands}
-use Rattle.mk_workers.specs.Going.{AreNamed, HasGone, HasEnded, HasStepped, IsOver, IsSame, stood_at}
+use Rattle.mk_workers.specs.Going.{AreNamed, HasGone, HasEnded, HasStepped, IsOver, stood_at}
 
 through_more : (round : Setting) (column : ColumnState) (log : List Step) (step : Step) → column_through round column (log ++ step ∷ []) ≡ column_after round (column_through round column log) step
 through_more round column [] step = refl

@@ -1,5 +1,5 @@
 -- Locks while they are made, one after another.
-use Rattle.std.proofs.Common.{◌≡◌, ◌∙◌, ℕ, zero, suc, ◌+◌, ◌*◌, ◌<◌, ◌≤◌, List, [], ◌∷◌, ◌++◌, length, length-append, map, drop, replicate, slice_get, slice_index_or, Some, refl, sym, ap, subst, arith, add-one}
+use Rattle.std.proofs.Common.{◌≡◌, ◌∙◌, ℕ, zero, suc, ◌+◌, ◌*◌, ◌<◌, List, [], ◌∷◌, ◌++◌, length, length-append, drop, replicate, slice_get, slice_index_or, Some, refl, sym, ap, subst, arith, add-one}
 use Rattle.std.specs.Global.{Vec}
 use Rattle.std.proofs.lemmas.List.{length-map, map-append}
 use Rattle.crossbeam_utils.specs.declared.cache_padded.CachePadded.{CachePadded}
@@ -7,7 +7,7 @@ use Rattle.crossbeam_utils.specs.Padded.{padded_value}
 use mathlib.Core.Logic.{dite}
 use native.Mathlib.Decide.{dec_lt}
 use Rattle.std.proofs.lemmas.Option.{slice_get_within, same_Some}
-use Rattle.mk_lists.proofs.Places.{slice_get-append_left, slice_get_push, slice_get-replicate, slice_get-from_replicate}
+use Rattle.mk_lists.proofs.Places.{slice_get-append_left, slice_get_push, slice_get-from_replicate}
 use Rattle.mk_words.specs.declared.Step.{Step}
 use Rattle.mk_lists.specs.Among.{Each}
 use Rattle.mk_words.specs.Cells.{CellState, CellView}

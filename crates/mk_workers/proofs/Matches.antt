@@ -1,13 +1,13 @@
 -- A column's entries in a journal are the key steps of its log.
-use Rattle.std.proofs.Common.{◌≡◌, ◌∙◌, ℕ, zero, suc, ◌<◌, Bool, true, false, cond, nat_eq, List, [], ◌∷◌, ◌++◌, map, length, slice_get, Some, refl, sym, ap, arith}
+use Rattle.std.proofs.Common.{◌≡◌, ◌∙◌, ℕ, Bool, true, false, cond, nat_eq, List, [], ◌∷◌, map, length, slice_get, Some, refl, sym, ap, arith}
 use Rattle.std.proofs.lemmas.Option.{slice_get_within}
 use Rattle.mk_words.specs.declared.JournalEntry.{JournalEntry}
 use Rattle.mk_words.specs.declared.Step.{Step}
 use Rattle.mk_words.specs.Cells.{CellState}
-use Rattle.mk_history.specs.Matching.{Turn, turns_in_log, turns_in_journal}
+use Rattle.mk_history.specs.Matching.{turns_in_log, turns_in_journal}
 use Rattle.mk_lock.specs.Entries.{of_seat}
 use Rattle.mk_lock.specs.Seats.{SeatView, LockView, AreSeatsOf, IsJournalOf}
-use Rattle.mk_workers.specs.Seating.{turn_of, IsSeatAt, HasColumns}
+use Rattle.mk_workers.specs.Seating.{turn_of, HasColumns}
 use Rattle.mk_workers.proofs.PairLaws.{slice_get-inside}
 
 -- the turns of a column in a journal are those of its entries

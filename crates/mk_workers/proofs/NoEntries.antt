@@ -2,12 +2,12 @@
 use Rattle.std.proofs.Common.{◌≡◌, ◌∙◌, ℕ, zero, suc, ◌<◌, List, [], ◌∷◌, length, map, slice_get, slice_index_or, Some, refl, sym, ap, subst, arith}
 use Rattle.std.specs.Global.{Vec}
 use Rattle.std.proofs.lemmas.List.{length-map}
-use Rattle.std.proofs.lemmas.Option.{slice_get_within, same_Some}
+use Rattle.std.proofs.lemmas.Option.{same_Some}
 use Rattle.mk_lists.specs.Among.{Each}
 use Rattle.mk_words.specs.declared.JournalEntry.{JournalEntry}
 use Rattle.mk_words.specs.Cells.{CellState, CellView, first_cell}
 use Rattle.mk_workers.specs.ByKey.{IsByKey, cell_at, keys_of, states_in, states_of}
-use Rattle.mk_workers.specs.Closing.{HasNoEntries, IsClosedRow}
+use Rattle.mk_workers.specs.Closing.{HasNoEntries}
 use Rattle.mk_workers.specs.Pairs.{Pairs}
 use Rattle.mk_workers.specs.Worked.{AreWorked, IsWorkedAt}
 use Rattle.mk_workers.proofs.Closings.{all_worked, at_map, journals_in}

@@ -1,8 +1,8 @@
 -- The seats of a column while its log goes on.
-use Rattle.std.proofs.Common.{◌≡◌, ◌∙◌, ℕ, zero, suc, ◌+◌, ◌*◌, ◌<◌, ◌⊎◌, inl, inr, Bool, true, false, cond, ◌&&◌, ◌==◌, nat_eq, eq-eqb, ne_eqb, List, [], ◌∷◌, ◌++◌, map, length, length-set, slice_get, Some, refl, sym, ap, subst, arith}
+use Rattle.std.proofs.Common.{◌≡◌, ◌∙◌, ℕ, ◌+◌, ◌*◌, inl, inr, Bool, true, false, cond, ◌&&◌, ◌==◌, nat_eq, eq-eqb, ne_eqb, List, [], ◌∷◌, ◌++◌, map, length-set, slice_get, Some, refl, sym, ap, subst}
 use Rattle.std.specs.Prelude.{slice_set}
 use Rattle.std.proofs.lemmas.List.{map-append, append-nil}
-use Rattle.std.proofs.lemmas.Option.{slice_get_within, same_Some}
+use Rattle.std.proofs.lemmas.Option.{same_Some}
 use Rattle.std.proofs.lemmas.Bool.{cases_eq}
 use Rattle.mk_lists.proofs.Places.{slice_get-set}
 use Rattle.mk_words.specs.declared.Act.{Act}
@@ -10,7 +10,7 @@ use Rattle.mk_words.specs.declared.Answer.{Answer}
 use Rattle.mk_words.specs.declared.KeyCall.{KeyCall}
 use Rattle.mk_words.specs.declared.Step.{Step}
 use Rattle.mk_words.specs.declared.Step.TheVariants.{Begin, Unread, Read, Stamp, Validate, Take, Key, Rule, Again, Takeover, Pick, Stop}
-use Rattle.mk_history.specs.Matching.{Turn, with_turn, turns_in_log}
+use Rattle.mk_history.specs.Matching.{Turn, turns_in_log}
 use Rattle.mk_lock.specs.Entries.{entry}
 use Rattle.mk_lock.specs.Seats.{SeatView, LockView}
 use Rattle.mk_column.specs.ColumnByCode.{ColumnView}

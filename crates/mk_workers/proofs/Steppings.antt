@@ -1,6 +1,5 @@
 -- One step of a column, as its driver named it, and what stays of its script.
-use Rattle.std.proofs.Common.{◌≡◌, ◌∙◌, ℕ, ◌<◌, List, [], ◌∷◌, ◌++◌, None, Option, Some, length, map, drop, refl, sym, ap, subst}
-use Rattle.mk_quorum.specs.Sizes.{members}
+use Rattle.std.proofs.Common.{◌≡◌, ◌∙◌, ℕ, ◌<◌, List, [], ◌∷◌, ◌++◌, None, Option, Some, sym, ap, subst}
 use Rattle.mk_quorum.specs.Slots.{passes}
 use Rattle.mk_trim.specs.declared.ReplicaView.{ReplicaView}
 use Rattle.mk_words.specs.declared.KeyCall.{KeyCall}
@@ -8,21 +7,19 @@ use Rattle.mk_words.specs.Acts.{answer_fits}
 use Rattle.mk_words.specs.declared.Step.{Step}
 use Rattle.mk_words.specs.declared.Step.TheVariants.{Begin, Unread, Read, Stamp, Validate, Take, Key, Rule, Again, Takeover, Pick, Stop}
 use Rattle.mk_script.specs.Scripts.{ScriptParts}
-use Rattle.mk_faults.specs.Fates.{RuleLines, rules_of}
+use Rattle.mk_faults.specs.Fates.{RuleLines}
 use Rattle.mk_model.specs.ColumnState.{Setting, ColumnState}
 use Rattle.mk_model.specs.Conditions.{blocked, wanted, first_failing, same_call}
-use Rattle.mk_model.specs.Steps.{column_after}
 use Rattle.mk_column.specs.ColumnByCode.{ColumnView}
 use Rattle.mk_driver.specs.declared.Next.{Next}
 use Rattle.mk_driver.specs.declared.Next.TheVariants.{Over}
-use Rattle.mk_driver.specs.Turns.{Choice, choice}
-use Rattle.mk_driver.specs.Driven.{Standing, PastRound, IsNamed, first_standing, lines_of_round, setting_in, standing_after, standing_at, standing_past, turn}
+use Rattle.mk_driver.specs.Turns.{choice}
+use Rattle.mk_driver.specs.Driven.{PastRound, IsNamed, turn}
 use Rattle.mk_driver.specs.Drivers.{DriverView}
 use Rattle.mk_driver.specs.Standings.{Stands, StandsAlike, IsStepped}
 use Rattle.mk_driver_laws.specs.Enabled.{HasCome, HasComeAfterStep, RoundEndsIdle, WantedIsThere}
 use Rattle.mk_workers.specs.Going.{HasDone, HasStepped, IsOver, IsOfScript, NamesNothing, WhereStanding}
 use Rattle.mk_workers.specs.Seating.{IsElsewhere}
-use Rattle.mk_workers.proofs.Goings.{standing-append}
 
 -- a step that is enabled where no key call is wanted is no key step
 pub elsewhere : (round : Setting) (column : ColumnState) (step : Step) → wanted column.work ≡ None → blocked round column step ≡ None → IsElsewhere step

@@ -5,7 +5,7 @@ use Rattle.mk_words.specs.declared.Step.{Step}
 use Rattle.mk_faults.specs.Fates.{RuleLines}
 use Rattle.mk_column.specs.ColumnByCode.{ColumnView}
 use Rattle.mk_driver.specs.Drivers.{DriverView}
-use Rattle.mk_workers.specs.Going.{HasEnded, HasGone, IsOver}
+use Rattle.mk_workers.specs.Going.{HasEnded, HasGone}
 use Rattle.mk_workers.specs.Turns.{HasTurned}
 use Rattle.mk_workers.proofs.Goings.{gone_more, gone_to_end}
 

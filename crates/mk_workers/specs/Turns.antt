@@ -1,6 +1,5 @@
 -- One worker, from turn to turn.
-use Rattle.std.specs.Prelude.{◌≡◌, ℕ, Bool, true, false, List, [], OnOk}
-use Rattle.mk_words.specs.declared.Step.{Step}
+use Rattle.std.specs.Prelude.{◌≡◌, ℕ, Bool, true, false, List, OnOk}
 use Rattle.mk_faults.specs.Fates.{RuleLines}
 use Rattle.mk_column.specs.ColumnByCode.{ColumnView}
 use Rattle.mk_driver.specs.Drivers.{DriverView}

@@ -3,7 +3,9 @@ ghost use Rattle.std.specs.Prelude.{◌≡◌, ◌<◌, ◌++◌, ◌∷◌, [],
 ghost use Rattle.mk_words.specs.Acts.{answer_fits};
 ghost use Rattle.mk_words.specs.declared.Answer.{Answer as OneAnswer};
 ghost use Rattle.mk_words.specs.declared.Step.TheVariants.{Key as KeyStep};
+ghost use Rattle.mk_column.specs.ColumnByCode.{ColumnView};
 ghost use Rattle.mk_column.specs.Growing.{HasGrown};
+ghost use Rattle.mk_driver_laws.specs.Enabled.{HasComeAfterStep, RoundEndsIdle, WantedIsThere};
 ghost use Rattle.mk_workers.specs.Going.{HasDone, IsOfScript};
 ghost use Rattle.mk_workers.specs.Seating.{locks_of, AreLocksOf, HasSeats};
 ghost use Rattle.mk_workers.specs.Turns.{HasTurned, IsAtWork};
@@ -16,6 +18,34 @@ use mk_lock::{Gate, KeyLock, Seat};
 use mk_txn::NoMemory;
 use mk_words::{KeyCall, Step};
 use std::sync::Wait;
+
+// A step that was named and is enabled is a step more.
+fn has_come_after_step()
+    ensures { HasComeAfterStep }
+{
+    has_come_goes_on();
+}
+
+// A call that a column wants is at one of the replicas and keys.
+fn wanted_is_there()
+    ensures { WantedIsThere }
+{
+    named_key_is_enabled();
+}
+
+// No key call is under way where nothing more is named.
+fn round_ends_idle()
+    ensures { RoundEndsIdle }
+{
+    named_key_is_enabled();
+}
+
+// A column has grown from itself.
+fn grows_from_itself()
+    ensures { (column : ColumnView) → HasGrown column column }
+{
+    grows_through();
+}
 
 // A step is refused for want of memory. A Stamp whose time there is not ends the worker in the same way.
 fn out_of_memory(_: ColumnError) -> NoMemory {
@@ -69,23 +99,28 @@ fn go_on<G: Gate, O: Outlet + Drop, R: Wait>(
     ensures grown { OnOk result (HasGrown worker.old.column worker.new.column) }
     ensures outlet { OnOk result (worker.new.outlet ≡ worker.old.outlet) }
 {
-    has_come_goes_on();
-    named_key_is_enabled();
-    grows_through();
-    stands_after_step();
     let next = worker
         .driver
         .next(&worker.column, shared.rules, shared.procs)?;
     match next {
         Next::Step(step) => {
             take_step(&mut worker.column, step)?;
+            has_come_after_step();
+            stands_after_step();
             Ok(true)
         }
         Next::Key(call) => {
+            wanted_is_there();
             key_step(rt, shared, &mut worker.column, &mut worker.seats, call)?;
+            has_come_after_step();
+            stands_after_step();
             Ok(true)
         }
-        Next::Over => Ok(false),
+        Next::Over => {
+            round_ends_idle();
+            grows_from_itself();
+            Ok(false)
+        }
     }
 }
 

@@ -1,11 +1,11 @@
-use Rattle.std.proofs.Common.{◌≡◌, ◌∙◌, ℕ, ◌+◌, ◌*◌, ◌<◌, ◌≤◌, ◌++◌, ◌∷◌, List, [], length, length-append, refl, sym, ap, subst, arith}
+use Rattle.std.proofs.Common.{◌≡◌, ◌∙◌, ℕ, ◌+◌, ◌*◌, ◌∷◌, List, [], length, length-append, sym, ap, subst, arith}
 use Rattle.std.specs.Global.{Vec}
 use Rattle.std.specs.Vec.Iter.{into_iter_items}
 use Rattle.mk_words.specs.declared.JournalEntry.{JournalEntry}
-use Rattle.mk_words.specs.Cells.{CellState, CellView}
+use Rattle.mk_words.specs.Cells.{CellView}
 use Rattle.mk_lock.specs.Seats.{LockView, AreSeatsOf, IsJournalOf}
-use Rattle.mk_workers.specs.Closing.{AreLeft, AreClosedAt, IsClosedRow}
-use Rattle.mk_workers.specs.Seating.{locks_of, AreOpened}
+use Rattle.mk_workers.specs.Closing.{AreLeft, AreClosedAt}
+use Rattle.mk_workers.specs.Seating.{locks_of}
 use Rattle.mk_workers.specs.Worked.{logs_of}
 use Rattle.mk_workers.proofs.Closings.{left_here, opened_here, closed_one, closed_more, closed_none}
 use Rattle.mk_workers.proofs.Matches.{are_seats}

@@ -1,11 +1,11 @@
-use Rattle.std.proofs.Common.{◌≡◌, ◌∙◌, ℕ, ◌+◌, ◌<◌, ◌≤◌, ◌++◌, ◌∷◌, List, [], length, map, length-append, slice_get, Some, refl, sym, ap, subst, arith}
+use Rattle.std.proofs.Common.{◌≡◌, ◌∙◌, ℕ, ◌+◌, ◌++◌, ◌∷◌, [], length, length-append, refl, sym, ap, subst, arith}
 use Rattle.std.proofs.lemmas.List.{length-map}
 use Rattle.std.specs.Global.{Vec}
 use Rattle.std.specs.Prelude.{slice_set}
 use Rattle.std.proofs.lemmas.Option.{slice_get_read, slice_get_within}
 use Rattle.mk_column.specs.ColumnByCode.{ColumnView}
 use Rattle.mk_lock.specs.Seats.{SeatView}
-use Rattle.mk_workers.specs.Seating.{locks_of, HasSeats, HasColumns, RowsHold}
+use Rattle.mk_workers.specs.Seating.{locks_of, HasSeats}
 use Rattle.mk_workers.specs.Worked.{logs_of}
 use Rattle.mk_workers.proofs.PairLaws.{until_none, until_whole}
 use Rattle.mk_workers.proofs.Dealings.{RowsWhile, given_more, still_there, last_there}

@@ -1,8 +1,8 @@
-use Rattle.std.proofs.Common.{◌≡◌, ◌∙◌, ℕ, ◌+◌, ◌<◌, ◌≤◌, [], length, replicate, take, refl, sym, ap, subst, arith}
+use Rattle.std.proofs.Common.{◌∙◌, ◌+◌, [], length, take, refl, sym, ap, subst, arith}
 use Rattle.std.specs.Global.{Vec}
 use Rattle.std.proofs.lemmas.Option.{slice_get_read}
 use Rattle.mk_lock.specs.Seats.{SeatView}
-use Rattle.mk_workers.specs.Seating.{locks_of, HasSeats, HasColumns}
+use Rattle.mk_workers.specs.Seating.{locks_of, HasSeats}
 use Rattle.mk_workers.proofs.PairLaws.{until_first, until_past}
 use Rattle.mk_workers.proofs.Dealings.{has_last, taken_more, taken_all, taken_none}
 use Rattle.mk_workers.proofs.dealing.take_column.Goals as goal

@@ -1,4 +1,4 @@
-use Rattle.std.proofs.Common.{◌≡◌, ◌+◌, [], take, replicate}
+use Rattle.std.proofs.Common.{◌+◌, [], take, replicate}
 use Rattle.mk_workers.specs.Seating.{locks_of, HasSeats}
 use Rattle.mk_workers.proofs.Dealings.{RowsWhile}
 use Rattle.mk_workers.proofs.dealing.take_column.Given as goal

@@ -1,7 +1,7 @@
-use Rattle.std.proofs.Common.{◌≡◌, ◌∙◌, ℕ, ◌+◌, ◌*◌, ◌<◌, List, [], length, map, slice_index_or, sym, ap, subst, arith}
+use Rattle.std.proofs.Common.{◌≡◌, ◌∙◌, ℕ, ◌+◌, ◌*◌, List, length, map, slice_index_or, sym, ap, subst, arith}
 use Rattle.std.specs.Vec.Iter.{into_iter_items}
 use Rattle.mk_words.specs.Cells.{CellState, CellView, first_cell}
-use Rattle.mk_workers.specs.ByKey.{states_in, cell_at}
+use Rattle.mk_workers.specs.ByKey.{states_in}
 use Rattle.mk_workers.specs.Making.{HasMade}
 use Rattle.mk_workers.proofs.Makings.{drop_first, made_more}
 use Rattle.mk_workers.proofs.locks.add_replica.Goals as goal

@@ -1,7 +1,6 @@
-use Rattle.std.proofs.Common.{◌≡◌, ◌∙◌, ◌+◌, ◌*◌, ◌<◌, List, [], length, map, sym, ap, subst, arith, refl}
+use Rattle.std.proofs.Common.{◌≡◌, ◌∙◌, ◌*◌, length, sym, subst, arith}
 use Rattle.std.specs.Vec.Iter.{into_iter_items}
-use Rattle.mk_words.specs.Cells.{CellState, CellView}
-use Rattle.mk_workers.specs.ByKey.{states_in, states_of, keys_of}
+use Rattle.mk_workers.specs.ByKey.{states_of, keys_of}
 use Rattle.mk_workers.specs.Making.{HasMade}
 use Rattle.mk_workers.proofs.Makings.{drop_first, made_all, made_none, made_row, row_at}
 use Rattle.mk_workers.proofs.locks.make_locks.Goals as goal

@@ -1,4 +1,4 @@
-use Rattle.std.proofs.Common.{◌≡◌, ◌+◌, ◌<◌, [], List, length, take, refl, sym, ap, subst, arith}
+use Rattle.std.proofs.Common.{[], List, length, take, refl, sym, subst, arith}
 use Rattle.std.specs.Global.{Vec}
 use Rattle.std.proofs.lemmas.Option.{slice_get_read}
 use Rattle.mk_words.specs.Cells.{CellView}

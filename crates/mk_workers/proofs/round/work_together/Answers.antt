@@ -1,4 +1,4 @@
-use Rattle.std.proofs.Common.{◌≡◌, ◌∙◌, ℕ, ◌++◌, List, length, take, drop, sym, ap, subst, arith}
+use Rattle.std.proofs.Common.{◌≡◌, ◌∙◌, ℕ, List, length, drop, sym, ap, subst, arith}
 use Rattle.mk_words.specs.declared.Step.{Step}
 use Rattle.mk_workers.specs.declared.worker.Worker.{Worker}
 use Rattle.mk_workers.specs.Begun.{AreBegun}

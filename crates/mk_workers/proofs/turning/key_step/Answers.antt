@@ -1,11 +1,7 @@
-use Rattle.std.proofs.Common.{◌≡◌, ◌∙◌, ◌+◌, ◌*◌, ◌<◌, ◌++◌, ◌∷◌, [], length, slice_get, slice_set, Some, sym, ap, subst, arith}
+use Rattle.std.proofs.Common.{◌+◌, ◌*◌, arith}
 use Rattle.std.proofs.lemmas.Option.{slice_get-get_or}
 use Rattle.std.proofs.lemmas.Result.{on_ok_weaker}
-use Rattle.mk_words.specs.declared.Step.{Step}
-use Rattle.mk_words.specs.declared.Step.TheVariants.{Key}
-use Rattle.mk_column.specs.ColumnByCode.{ColumnView}
-use Rattle.mk_workers.specs.Going.{HasDone}
-use Rattle.mk_workers.specs.Seating.{locks_of, HasSeats}
+use Rattle.mk_workers.specs.Seating.{locks_of}
 use Rattle.mk_workers.proofs.KeyPlaces.{index_there, lock_here, lock_read}
 use Rattle.mk_workers.proofs.SeatSteps.{seats_done}
 use Rattle.mk_workers.proofs.turning.key_step.Goals as goal

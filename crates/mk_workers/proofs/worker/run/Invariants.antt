@@ -1,4 +1,4 @@
-use Rattle.std.proofs.Common.{◌≡◌, List}
+use Rattle.std.proofs.Common.{List}
 use Rattle.mk_words.specs.declared.Step.{Step}
 use Rattle.mk_workers.specs.Going.{HasGone}
 use Rattle.mk_workers.specs.Seating.{locks_of}
