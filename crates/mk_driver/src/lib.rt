@@ -276,7 +276,6 @@ pub struct RoundLines {
 }
 
 /// The driver of one column of a script.
-#[derive(Drop)]
 pub struct Driver {
     size: Size,
     column: u32,
@@ -284,6 +283,19 @@ pub struct Driver {
     round: u32,
     rounds: VecDeque<RoundLines>,
     state: DriverState,
+}
+
+// Written out, so that a crate above proves one call, and not the drop of each part.
+impl Drop for Driver {
+    fn drop(self) {
+        let Driver {
+            size: _,
+            column: _,
+            round: _,
+            rounds: _rounds,
+            state: _state,
+        } = self;
+    }
 }
 
 impl Model for Driver {
