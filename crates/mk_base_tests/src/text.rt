@@ -20,7 +20,8 @@ fn numbers_from_the_left(rt: HostRuntime) {
 
 #[test]
 fn words_of_a_line(rt: HostRuntime) {
-    assert!(rt; has_empty_word(b"a  b") && has_empty_word(b"a ") && !has_empty_word(b"a b"));
+    assert!(rt; look(b"a  b").empty_word && look(b"a ").empty_word && !look(b"a b").empty_word);
+    assert!(rt; look(b" ~").printable && !look(b"a\tb").printable && !look(b"\x7f").printable);
     assert!(rt; five(Some(b"a b c d e")).is_some() && five(Some(b"a b c d")).is_none());
     assert!(rt; two_then(Some(b"a b c d")).is_some() && two_then(Some(b"a b")).is_none());
     assert!(rt; is_name(b"a_0") && !is_name(b"A") && !is_name(b"abcdefghijklmnopq"));

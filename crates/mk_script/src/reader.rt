@@ -23,8 +23,8 @@ use crate::words::{Keyword, Section};
 use mk_names::Names;
 use mk_quorum::Size;
 use mk_text::{
-    TextFault, cut, five, has_empty_word, is_name, is_printable, name_text, need, next_word,
-    none_left, number, one, three, two, two_then,
+    TextFault, cut, five, is_name, look, name_text, need, next_word, none_left, number, one, three,
+    two, two_then,
 };
 use mk_txn::{NoMemory, TxnId};
 use mk_words::GlobalLine;
@@ -378,11 +378,12 @@ impl Reader {
     pub fn line(&mut self, line: &[u8]) -> Result<(), LineError>
         ensures { Meets result self.new (spec.line_result self.old line.now) }
     {
-        need(is_printable(line), TextFault::Byte)?;
+        let seen = look(line);
+        need(seen.printable, TextFault::Byte)?;
         if is_passed_over(line) {
             return Ok(());
         }
-        need(!has_empty_word(line), TextFault::Form)?;
+        need(!seen.empty_word, TextFault::Form)?;
         let (first, rest) = next_word(line);
         let keyword = fields::keyword(first).ok_or(TextFault::Form)?;
         self.by_keyword(keyword, rest)

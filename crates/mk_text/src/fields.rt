@@ -12,13 +12,6 @@ pub fn need(test: bool, fault: TextFault) -> Result<(), TextFault>
     if test { Ok(()) } else { Err(fault) }
 }
 
-/// Whether each byte is printable ASCII, 0x20 to 0x7E.
-pub fn is_printable(bytes: &[u8]) -> bool
-    ensures { result ≡ spec.is_printable bytes.now }
-{
-    bytes.iter().all(|b| *b >= b' ' && *b <= b'~')
-}
-
 fn are_digits(word: &[u8]) -> bool
     ensures { result ≡ spec.are_digits word.now }
 {

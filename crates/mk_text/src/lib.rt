@@ -4,6 +4,8 @@
 mod fields;
 mod words;
 
-pub use fields::{is_name, is_number, is_printable, name_text, need, number, ranged, value};
+pub use fields::{is_name, is_number, name_text, need, number, ranged, value};
 pub use mk_spelling::TextFault;
-pub use words::{cut, five, four, has_empty_word, next_word, none_left, one, three, two, two_then};
+pub use words::{
+    LineLook, cut, cut_word, five, four, look, next_word, none_left, one, three, two, two_then,
+};

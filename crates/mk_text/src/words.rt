@@ -1,26 +1,49 @@
 //! Where a text is cut, and the words of a line.
-ghost use Rattle.std.specs.Prelude.{◌≡◌};
+ghost use Rattle.std.specs.Prelude.{◌≡◌, ◌<◌, suc, length, take, drop};
 ghost use Rattle.std.specs.List.{list_any};
 ghost use Rattle.mk_spelling.specs.Words as spec;
 ghost use Rattle.mk_spelling.specs.Fields.{one_of, two_of, three_of, four_of, five_of, two_and_more};
 
 use memchr::memchr;
 
+/// What stands before the byte at this place, and what stands behind it.
+fn around(place: usize, bytes: &[u8]) -> (&[u8], &[u8])
+    requires { place < length bytes.now }
+    ensures front { result.0.now ≡ take place bytes.now }
+    ensures rest { result.1.now ≡ drop (suc place) bytes.now }
+{
+    let (front, back) = bytes.split_at(place);
+    let (_, rest) = back.split_at(1);
+    (front, rest)
+}
+
 /// What stands before the first such byte, and what stands behind it; None where there is none.
 pub fn cut(mark: u8, bytes: &[u8]) -> Option<(&[u8], &[u8])>
     ensures { spec.seen result ≡ spec.cut mark bytes.now }
 {
     let place = memchr(mark, bytes)?;
-    let (front, back) = bytes.split_at(place);
-    let (_, rest) = back.split_at(1);
-    Some((front, rest))
+    Some(around(place, bytes))
+}
+
+/// The same for a text of few bytes, in which a search takes longer to begin than to end.
+pub fn cut_word(mark: u8, word: &[u8]) -> Option<(&[u8], &[u8])>
+    ensures { spec.seen result ≡ spec.cut mark word.now }
+{
+    let mut place = 0;
+    'find: while place < word.len() {
+        if word[place] == mark {
+            return Some(around(place, word));
+        }
+        place += 1;
+    }
+    None
 }
 
 /// The first word of a line, and the text behind it where a space follows.
 pub fn next_word(line: &[u8]) -> (&[u8], Option<&[u8]>)
     ensures { spec.words line.now ≡ spec.first_and_rest result }
 {
-    match cut(b' ', line) {
+    match cut_word(b' ', line) {
         None => (line, None),
         Some((word, rest)) => (word, Some(rest)),
     }
@@ -93,17 +116,34 @@ pub fn two_then(text: Option<&[u8]>) -> Option<(&[u8], &[u8], &[u8])>
     Some((a, b, more?))
 }
 
-/// Whether a word is empty, as where two spaces follow one another.
-pub fn has_empty_word(line: &[u8]) -> bool
-    ensures { result ≡ list_any spec.is_empty (spec.words line.now) }
+/// What the bytes of a line show.
+#[derive(Clone, Copy)]
+pub struct LineLook {
+    /// Each byte is printable ASCII, 0x20 to 0x7E.
+    pub printable: bool,
+    /// A word is empty, as where two spaces follow one another.
+    pub empty_word: bool,
+}
+
+/// Looks at each byte of a line once.
+pub fn look(line: &[u8]) -> LineLook
+    ensures printable { result.printable ≡ spec.is_printable line.now }
+    ensures empty_word { result.empty_word ≡ list_any spec.is_empty (spec.words line.now) }
 {
-    let mut left = Some(line);
-    while let Some(behind) = left {
-        let (word, rest) = next_word(behind);
-        if word.is_empty() {
-            return true;
+    let mut printable = true;
+    let mut empty_word = false;
+    let mut at_start = true;
+    'bytes: for b in line {
+        if *b == b' ' {
+            empty_word = empty_word || at_start;
+            at_start = true;
+        } else {
+            printable = printable && *b > b' ' && *b <= b'~';
+            at_start = false;
         }
-        left = rest;
     }
-    false
+    LineLook {
+        printable,
+        empty_word: empty_word || at_start,
+    }
 }

@@ -5,7 +5,7 @@ ghost use Rattle.mk_spelling.specs.Words.{words_behind};
 ghost use Rattle.mk_spelling.specs.declared.fault.TextFault.TheVariants.{Unknown};
 ghost use Rattle.mk_trace.specs.Grammar as spec;
 
-use mk_text::{TextFault, cut, is_number, need, next_word, value};
+use mk_text::{TextFault, cut_word, is_number, need, next_word, value};
 
 /// Whether the word is the digits of this number.
 pub fn is_text_of(n: u64, word: &[u8]) -> bool
@@ -56,7 +56,7 @@ pub fn are_writes(text: Option<&[u8]>) -> bool
     let mut left = text;
     while let Some(behind) = left {
         let (word, rest) = next_word(behind);
-        if cut(b'=', word).is_none() {
+        if cut_word(b'=', word).is_none() {
             return false;
         }
         left = rest;

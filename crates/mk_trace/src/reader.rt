@@ -21,8 +21,8 @@ use mk_kept::{Head, Run};
 use mk_names::Names;
 use mk_quorum::Size;
 use mk_text::{
-    TextFault, cut, has_empty_word, is_name, is_number, is_printable, name_text, need, next_word,
-    none_left, number, one, two, value,
+    TextFault, cut_word, is_name, is_number, look, name_text, need, next_word, none_left, number,
+    one, two, value,
 };
 use mk_trace_lines::{
     Keyword, Replier, act_shape, first, keyword, reply, reply_shape, turn, value as written_value,
@@ -402,7 +402,7 @@ impl Reader {
         ensures { MeetsLine result self.new self.old (spec.begin_line self.old (words_behind rest.entry)) }
     {
         let (id, replica) = two(rest).ok_or(TextFault::Form)?;
-        let (name, seq) = cut(b'.', id).ok_or(TextFault::Form)?;
+        let (name, seq) = cut_word(b'.', id).ok_or(TextFault::Form)?;
         need(places::in_log(self.section), TextFault::Order)?;
         need(is_text_of(self.next_seq(name), seq), TextFault::Order)?;
         let id = self.attempt(name, seq)?;
@@ -418,7 +418,7 @@ impl Reader {
         ensures { MeetsLine result self.new self.old (spec.unread_line self.old (words_behind rest.entry)) }
     {
         let id = one(rest).ok_or(TextFault::Form)?;
-        let (name, seq) = cut(b'.', id).ok_or(TextFault::Form)?;
+        let (name, seq) = cut_word(b'.', id).ok_or(TextFault::Form)?;
         need(places::in_log(self.section), TextFault::Order)?;
         need(is_text_of(self.next_seq(name), seq), TextFault::Order)?;
         let id = self.attempt(name, seq)?;
@@ -433,7 +433,7 @@ impl Reader {
         ensures { MeetsLine result self.new self.old (spec.read_line self.old (words_behind rest.entry)) }
     {
         let (id, key) = two(rest).ok_or(TextFault::Form)?;
-        let (name, seq) = cut(b'.', id).ok_or(TextFault::Form)?;
+        let (name, seq) = cut_word(b'.', id).ok_or(TextFault::Form)?;
         need(places::in_log(self.section), TextFault::Order)?;
         let id = self.attempt(name, seq)?;
         let key = self.key(key)?;
@@ -444,7 +444,7 @@ impl Reader {
     fn write(&self, word: &[u8]) -> Result<WriteItem, TextFault>
         ensures { result ≡ spec.write_word self.now word.now }
     {
-        let (name, text) = cut(b'=', word).ok_or(TextFault::Form)?;
+        let (name, text) = cut_word(b'=', word).ok_or(TextFault::Form)?;
         let value = written_value(self.head.version, text)?;
         let key = self.key(name)?;
         Ok(WriteItem { key, value })
@@ -469,7 +469,7 @@ impl Reader {
         ensures { MeetsLine result self.new self.old (spec.stamp_line self.old (words_behind rest.entry)) }
     {
         let (id, rest) = first(rest).ok_or(TextFault::Form)?;
-        let (name, seq) = cut(b'.', id).ok_or(TextFault::Form)?;
+        let (name, seq) = cut_word(b'.', id).ok_or(TextFault::Form)?;
         let (clock, rest) = first(rest).ok_or(TextFault::Form)?;
         need(are_writes(rest), TextFault::Form)?;
         need(places::in_log(self.section), TextFault::Order)?;
@@ -484,7 +484,7 @@ impl Reader {
         ensures { result ≡ spec.alone_of self.now (words_behind rest.entry) }
     {
         let id = one(rest).ok_or(TextFault::Form)?;
-        let (name, seq) = cut(b'.', id).ok_or(TextFault::Form)?;
+        let (name, seq) = cut_word(b'.', id).ok_or(TextFault::Form)?;
         need(places::in_log(self.section), TextFault::Order)?;
         self.attempt(name, seq)
     }
@@ -494,7 +494,7 @@ impl Reader {
         ensures { result ≡ spec.viewed_of self.now (words_behind rest.entry) }
     {
         let (id, view) = two(rest).ok_or(TextFault::Form)?;
-        let (name, seq) = cut(b'.', id).ok_or(TextFault::Form)?;
+        let (name, seq) = cut_word(b'.', id).ok_or(TextFault::Form)?;
         need(places::in_log(self.section), TextFault::Order)?;
         let id = self.attempt(name, seq)?;
         let view = number(view, 1, 15)? as u32;
@@ -711,8 +711,9 @@ impl Reader {
     pub fn line(&mut self, line: &[u8]) -> Result<(), LineError>
         ensures { Meets result self.new self.old (spec.line_result self.old line.now) }
     {
-        need(is_printable(line), TextFault::Byte)?;
-        need(!has_empty_word(line), TextFault::Form)?;
+        let seen = look(line);
+        need(seen.printable, TextFault::Byte)?;
+        need(!seen.empty_word, TextFault::Form)?;
         let (word, rest) = next_word(line);
         if begins_with_digit(word) {
             return self.entry(word, rest);

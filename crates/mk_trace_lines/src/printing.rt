@@ -8,6 +8,7 @@ ghost use Rattle.mk_trace_lines.specs.TraceLines as spec;
 ghost use Rattle.mk_trace_lines.specs.TraceLines.{spaced, line_text};
 ghost use Rattle.mk_trace_lines.specs.TraceLines.TraceLine.{Logged, Kept, Changed};
 
+use itoa::Buffer;
 use mk_names::Names;
 use mk_txn::{Reason, Stamp, TxnId, Value, WriteItem};
 use mk_words::{Act, Answer, GlobalAnswer, GlobalEntry, GlobalLine, JournalEntry, KeyCall, Step};
@@ -44,36 +45,53 @@ fn reason_word(reason: Reason) -> &'static str
     }
 }
 
+/// Appends the digits of a number.
+fn put_number(out: &mut String, n: u64) -> Result<(), AllocError>
+    ensures { OnOk result (string_bytes out.new ≡ string_bytes out.old ++ decimal n) }
+{
+    let mut digits = Buffer::new();
+    out.push_str(digits.format(n))
+}
+
+/// Appends an attempt.
+fn put_attempt(out: &mut String, clients: &Names, client: u32, seq: u64) -> Result<(), AllocError>
+    ensures { OnOk result (string_bytes out.new ≡ string_bytes out.old ++ spec.attempt_text clients.now.names client seq) }
+{
+    out.push_str(client_name(clients, client))?;
+    out.push_str(".")?;
+    put_number(out, seq)
+}
+
 fn put_stamp(out: &mut String, stamp: Stamp) -> Result<(), AllocError>
     ensures { OnOk result (string_bytes out.new ≡ string_bytes out.old ++ (32 ∷ spec.stamp_text stamp)) }
 {
-    let time = stamp.time;
-    let client = stamp.client;
-    write!(out, " {time}.{client}")?;
-    Ok(())
+    out.push_str(" ")?;
+    put_number(out, stamp.time)?;
+    out.push_str(".")?;
+    put_number(out, u64::from(stamp.client))
 }
 
 fn put_value(out: &mut String, value: Value) -> Result<(), AllocError>
     ensures { OnOk result (string_bytes out.new ≡ string_bytes out.old ++ spec.value_text value) }
 {
     match value {
-        Value::Number(n) => write!(out, "{n}")?,
-        Value::Absent => write!(out, "none")?,
+        Value::Number(n) => put_number(out, n),
+        Value::Absent => out.push_str("none"),
     }
-    Ok(())
 }
 
 fn put_spaced_value(out: &mut String, value: Value) -> Result<(), AllocError>
     ensures { OnOk result (string_bytes out.new ≡ string_bytes out.old ++ (32 ∷ spec.value_text value)) }
 {
-    write!(out, " ")?;
+    out.push_str(" ")?;
     put_value(out, value)
 }
 
 fn put_stamped(out: &mut String, word: &str, stamp: Stamp) -> Result<(), AllocError>
     ensures { OnOk result (string_bytes out.new ≡ string_bytes out.old ++ spaced (word.now ∷ spec.stamp_text stamp ∷ [])) }
 {
-    write!(out, " {word}")?;
+    out.push_str(" ")?;
+    out.push_str(word)?;
     put_stamp(out, stamp)
 }
 
@@ -81,10 +99,7 @@ fn put_act(out: &mut String, act: Act) -> Result<(), AllocError>
     ensures { OnOk result (string_bytes out.new ≡ string_bytes out.old ++ spaced (spec.act_words act)) }
 {
     match act {
-        Act::Get => {
-            write!(out, " get")?;
-            Ok(())
-        }
+        Act::Get => out.push_str(" get"),
         Act::CheckRead { ts, version } => {
             put_stamped(out, "checkread", ts)?;
             put_stamp(out, version)
@@ -106,17 +121,12 @@ fn put_answer(out: &mut String, answer: Answer) -> Result<(), AllocError>
     match answer {
         Answer::Version { version, value } => {
             put_stamp(out, version)?;
-            put_spaced_value(out, value)?;
+            put_spaced_value(out, value)
         }
-        Answer::Okay => write!(out, " ok")?,
-        Answer::Refused { reason, stamp } => {
-            let word = reason_word(reason);
-            write!(out, " {word}")?;
-            put_stamp(out, stamp)?;
-        }
-        Answer::Done => {}
+        Answer::Okay => out.push_str(" ok"),
+        Answer::Refused { reason, stamp } => put_stamped(out, reason_word(reason), stamp),
+        Answer::Done => Ok(()),
     }
-    Ok(())
 }
 
 fn put_turn(out: &mut String, act: Act, answer: Answer) -> Result<(), AllocError>
@@ -134,19 +144,20 @@ fn put_turn_step(
 ) -> Result<(), AllocError>
     ensures { OnOk result (string_bytes out.new ≡ string_bytes out.old ++ spec.ended (spec.turn_text keys.now.names call answer)) }
 {
-    let replica = call.replica;
-    let key = key_name(keys, call.key);
-    write!(out, "key {replica} {key}")?;
+    out.push_str("key ")?;
+    put_number(out, u64::from(call.replica))?;
+    out.push_str(" ")?;
+    out.push_str(key_name(keys, call.key))?;
     put_turn(out, call.act, answer)?;
-    writeln!(out)?;
-    Ok(())
+    out.push_str("\n")
 }
 
 fn put_write(out: &mut String, keys: &Names, item: WriteItem) -> Result<(), AllocError>
     ensures { OnOk result (string_bytes out.new ≡ string_bytes out.old ++ (32 ∷ spec.write_text keys.now.names item)) }
 {
-    let key = key_name(keys, item.key);
-    write!(out, " {key}=")?;
+    out.push_str(" ")?;
+    out.push_str(key_name(keys, item.key))?;
+    out.push_str("=")?;
     put_value(out, item.value)
 }
 
@@ -169,21 +180,21 @@ fn put_stamp_step(
 ) -> Result<(), AllocError>
     ensures { OnOk result (string_bytes out.new ≡ string_bytes out.old ++ spec.ended (spec.stamped_text clients.now.names keys.now.names id clock writes.now)) }
 {
-    let name = client_name(clients, id.client);
-    let seq = id.seq;
-    write!(out, "stamp {name}.{seq} {clock}")?;
+    out.push_str("stamp ")?;
+    put_attempt(out, clients, id.client, u64::from(id.seq))?;
+    out.push_str(" ")?;
+    put_number(out, clock)?;
     put_writes(out, keys, writes)?;
-    writeln!(out)?;
-    Ok(())
+    out.push_str("\n")
 }
 
 fn put_alone(out: &mut String, clients: &Names, word: &str, id: TxnId) -> Result<(), AllocError>
     ensures { OnOk result (string_bytes out.new ≡ string_bytes out.old ++ spec.ended (word.now ++ 32 ∷ spec.attempt_text clients.now.names id.client id.seq)) }
 {
-    let name = client_name(clients, id.client);
-    let seq = id.seq;
-    writeln!(out, "{word} {name}.{seq}")?;
-    Ok(())
+    out.push_str(word)?;
+    out.push_str(" ")?;
+    put_attempt(out, clients, id.client, u64::from(id.seq))?;
+    out.push_str("\n")
 }
 
 fn put_viewed(
@@ -196,10 +207,12 @@ fn put_viewed(
     ensures { OnOk result (string_bytes out.new ≡ string_bytes out.old ++
         spec.ended (word.now ++ 32 ∷ (spec.attempt_text clients.now.names id.client id.seq ++ 32 ∷ decimal view))) }
 {
-    let name = client_name(clients, id.client);
-    let seq = id.seq;
-    writeln!(out, "{word} {name}.{seq} {view}")?;
-    Ok(())
+    out.push_str(word)?;
+    out.push_str(" ")?;
+    put_attempt(out, clients, id.client, u64::from(id.seq))?;
+    out.push_str(" ")?;
+    put_number(out, u64::from(view))?;
+    out.push_str("\n")
 }
 
 fn put_begin(
@@ -212,17 +225,19 @@ fn put_begin(
     ensures { OnOk result (string_bytes out.new ≡ string_bytes out.old ++
         spec.ended (codes "begin " ++ (spec.attempt_text clients.now.names client seq ++ 32 ∷ decimal replica))) }
 {
-    let name = client_name(clients, client);
-    writeln!(out, "begin {name}.{seq} {replica}")?;
-    Ok(())
+    out.push_str("begin ")?;
+    put_attempt(out, clients, client, seq)?;
+    out.push_str(" ")?;
+    put_number(out, u64::from(replica))?;
+    out.push_str("\n")
 }
 
 fn put_unread(out: &mut String, clients: &Names, client: u32, seq: u64) -> Result<(), AllocError>
     ensures { OnOk result (string_bytes out.new ≡ string_bytes out.old ++ spec.ended (codes "unread " ++ spec.attempt_text clients.now.names client seq)) }
 {
-    let name = client_name(clients, client);
-    writeln!(out, "unread {name}.{seq}")?;
-    Ok(())
+    out.push_str("unread ")?;
+    put_attempt(out, clients, client, seq)?;
+    out.push_str("\n")
 }
 
 fn put_read(
@@ -235,11 +250,19 @@ fn put_read(
     ensures { OnOk result (string_bytes out.new ≡ string_bytes out.old ++
         spec.ended (codes "read " ++ (spec.attempt_text clients.now.names id.client id.seq ++ 32 ∷ spec.key_name keys.now.names key))) }
 {
-    let name = client_name(clients, id.client);
-    let seq = id.seq;
-    let key = key_name(keys, key);
-    writeln!(out, "read {name}.{seq} {key}")?;
-    Ok(())
+    out.push_str("read ")?;
+    put_attempt(out, clients, id.client, u64::from(id.seq))?;
+    out.push_str(" ")?;
+    out.push_str(key_name(keys, key))?;
+    out.push_str("\n")
+}
+
+fn put_take(out: &mut String, number: u64) -> Result<(), AllocError>
+    ensures { OnOk result (string_bytes out.new ≡ string_bytes out.old ++ spec.ended (codes "take " ++ decimal number)) }
+{
+    out.push_str("take ")?;
+    put_number(out, number)?;
+    out.push_str("\n")
 }
 
 /// Appends the line of a step, with the seq that it begins.
@@ -260,10 +283,7 @@ pub fn put_step(
             put_stamp_step(out, clients, keys, *id, *clock, writes.as_slice())
         }
         Step::Validate { id } => put_alone(out, clients, "validate", *id),
-        Step::Take { number } => {
-            writeln!(out, "take {number}")?;
-            Ok(())
-        }
+        Step::Take { number } => put_take(out, *number),
         Step::Key { call, answer } => put_turn_step(out, keys, *call, *answer),
         Step::Rule { id } => put_alone(out, clients, "rule", *id),
         Step::Again { id } => put_alone(out, clients, "again", *id),
@@ -282,10 +302,9 @@ pub fn put_entry(
 ) -> Result<(), AllocError>
     ensures { OnOk result (string_bytes out.new ≡ string_bytes out.old ++ line_text clients.now.names keys.now.names (Kept entry)) }
 {
-    let seat = entry.seat;
-    write!(out, "{seat}")?;
+    put_number(out, u64::from(entry.seat))?;
     put_turn(out, entry.act, entry.answer)?;
-    writeln!(out)?;
+    out.push_str("\n")?;
     Ok(())
 }
 

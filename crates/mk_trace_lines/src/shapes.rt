@@ -8,7 +8,9 @@ ghost use Rattle.mk_trace_lines.specs.Seen.{seen_first, seen_stamp, seen_answer,
 ghost use Rattle.mk_trace_lines.specs.ActShapes as spec;
 
 use crate::words::ActWord;
-use mk_text::{TextFault, cut, is_number, need, next_word, none_left, number, one, ranged, two};
+use mk_text::{
+    TextFault, cut_word, is_number, need, next_word, none_left, number, one, ranged, two,
+};
 use mk_txn::{LAST_TIME, Reason, Stamp, Value};
 use mk_words::{Act, Answer};
 
@@ -82,7 +84,7 @@ fn act_word(word: &[u8]) -> Option<ActWord>
 fn stamp_parts(word: &[u8]) -> Result<Stamped<'_>, TextFault>
     ensures { seen_stamp result ≡ spec.stamp_parts word.now }
 {
-    let (time, client) = cut(b'.', word).ok_or(TextFault::Form)?;
+    let (time, client) = cut_word(b'.', word).ok_or(TextFault::Form)?;
     Ok(Stamped { time, client })
 }
 

@@ -1,4 +1,4 @@
-use Rattle.std.proofs.Common.{◌≡◌, ℕ, suc, ◌+◌, drop, drop-drop, arith, refl, ap, ◌∙◌}
+use Rattle.std.proofs.Common.{arith, refl}
 use Rattle.std.proofs.lemmas.Bool.Decides.{nat_tests}
 use Rattle.std.proofs.lemmas.Bool.{eqb-true}
 use Rattle.mk_spelling.proofs.Cuts.{cut_at, cut_none}
@@ -12,7 +12,4 @@ pub returns : goal.returns
 returns c =
     let h = c.in_ok-place.ensures in
     let e = cut_at c.args.mark c.args.bytes.now c.in_ok-place.place (omega (arith, h.0.high)) (eqb-true _ _ h.1) (λ k lt e. h.0.before k (omega arith) lt (grind (arith, nat_tests))) in
-    let next : c.in_ok-place.place + 1 ≡ suc c.in_ok-place.place = omega arith in
-    let behind : drop 1 (drop c.in_ok-place.place c.args.bytes.now) ≡ drop (suc c.in_ok-place.place) c.args.bytes.now =
-    drop-drop 1 c.in_ok-place.place c.args.bytes.now ∙ ap (λ (k : ℕ). drop k c.args.bytes.now) next in
-    rw (c.split_at.ensures.front, c.split_at-2.ensures.back, c.split_at.ensures.back, behind, e) refl
+    rw (c.around.ensures.front, c.around.ensures.rest, e) refl
