@@ -1,6 +1,7 @@
 pub mod PairLaws
 pub mod FromLaws
 pub mod MatchLaws
+pub mod MatcherLaws
 pub mod RowLaws
 pub mod LogLaws
 pub mod Linking

@@ -3,6 +3,7 @@ pub mod Pairs
 pub mod Turns
 pub mod Journals
 pub mod Matches
+pub mod Matchers
 pub mod Logs
 pub mod Working
 pub mod Standings

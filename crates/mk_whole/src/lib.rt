@@ -4,6 +4,7 @@
 mod globals;
 mod journals;
 mod logs;
+mod matchers;
 mod matching;
 mod replaying;
 mod turns;

@@ -1,107 +1,16 @@
 //! The journals of a round compared with the key steps of its logs.
-ghost use Rattle.std.specs.Prelude.{◌≡◌, ◌≤◌, ◌==◌, length, map, filter, slice_get, IfOk};
+ghost use Rattle.std.specs.Prelude.{◌≡◌, ◌≤◌, length, map, IfOk};
 ghost use Rattle.mk_lists.specs.Among.{Each};
-ghost use Rattle.mk_quorum.specs.Slots.{passes};
-ghost use Rattle.mk_words.specs.Acts.{same_act};
-ghost use Rattle.mk_verdict.specs.Flaws.{first_from, difference as first_difference};
-ghost use Rattle.mk_verdict.specs.Sameness.{same_answer, same_turn};
-ghost use Rattle.mk_whole.specs.Matches.{turn_of, flaw_between, unmatched_key, unmatched_replica};
+ghost use Rattle.mk_verdict.specs.Flaws.{first_from};
+ghost use Rattle.mk_whole.specs.Matches.{flaw_between, unmatched_key, unmatched_replica};
 
+use crate::matchers::{flaw_at_end, matchers_of, take_entries};
 use crate::turns::KeyTurns;
-use crate::{Flaw, JournalEntry, Place, PlacedFlaw};
+use crate::{JournalEntry, PlacedFlaw};
 use mk_txn::NoMemory;
-use mk_words::{Act, Answer};
 use std::alloc::Global;
 
-// The column's entries, in order.
-fn of_column(
-    alloc: Global,
-    column: u32,
-    entries: &[JournalEntry],
-) -> Result<Vec<JournalEntry>, NoMemory>
-    ensures { IfOk result (λ own. own.items ≡ filter (λ entry. entry.seat == column) entries.now) }
-{
-    let mut own = Vec::new(alloc);
-    for entry in entries {
-        if entry.seat == column {
-            own.push(*entry)?;
-        }
-    }
-    Ok(own)
-}
-
-fn is_act(a: Act, b: Act) -> bool
-    ensures { result ≡ same_act a b }
-{
-    a == b
-}
-
-fn is_answer(a: Answer, b: Answer) -> bool
-    ensures { result ≡ same_answer a b }
-{
-    a == b
-}
-
-fn is_turn(a: &JournalEntry, b: &JournalEntry) -> bool
-    ensures { result ≡ same_turn (turn_of a.now) (turn_of b.now) }
-{
-    is_act(a.act, b.act) && is_answer(a.answer, b.answer)
-}
-
-// Whether this turn stands at the place.
-fn stands_at(turns: &[JournalEntry], place: usize, turn: &JournalEntry) -> bool
-    ensures { result ≡ passes (λ other. same_turn (turn_of turn.now) (turn_of other)) (slice_get turns.now place) }
-{
-    match turns.get(place) {
-        Some(other) => is_turn(turn, other),
-        None => false,
-    }
-}
-
-// The first place at which the turns differ, or one list ends.
-fn difference(entries: &[JournalEntry], turns: &[JournalEntry]) -> Option<u64>
-    ensures { result ≡ first_difference 1 (map turn_of entries.now) (map turn_of turns.now) }
-{
-    for (place, entry) in entries.iter().enumerate() {
-        if !stands_at(turns, place, entry) {
-            return Some(place as u64 + 1);
-        }
-    }
-    if entries.len() < turns.len() {
-        Some(entries.len() as u64 + 1)
-    } else {
-        None
-    }
-}
-
-// The first place at which the column's entries in the journal and its key steps differ.
-fn match_column(
-    replica: u32,
-    key: u32,
-    column: u32,
-    journal: &[JournalEntry],
-    turns: &[JournalEntry],
-    alloc: Global,
-) -> Result<Option<PlacedFlaw>, NoMemory>
-    ensures { IfOk result (λ flaw. flaw ≡ flaw_between replica key journal.now turns.now column) }
-{
-    let own = of_column(alloc, column, journal)?;
-    let done = of_column(alloc, column, turns)?;
-    match difference(own.as_slice(), done.as_slice()) {
-        Some(entry) => Ok(Some(PlacedFlaw {
-            place: Place::Match {
-                replica,
-                key,
-                column,
-                entry,
-            },
-            why: Flaw::Unmatched,
-        })),
-        None => Ok(None),
-    }
-}
-
-// The same of the first of the columns that is not matched at this key.
+// The first place at this key, by column, at which the entries in the journal and the key steps differ.
 fn match_key(
     replica: u32,
     key: u32,
@@ -112,13 +21,9 @@ fn match_key(
 ) -> Result<Option<PlacedFlaw>, NoMemory>
     ensures { IfOk result (λ flaw. flaw ≡ first_from (flaw_between replica key journal.now turns.now) 0 columns) }
 {
-    for column in 0..columns {
-        let flaw = match_column(replica, key, column, journal, turns, alloc)?;
-        if flaw.is_some() {
-            return Ok(flaw);
-        }
-    }
-    Ok(None)
+    let mut matchers = matchers_of(alloc, columns, turns)?;
+    take_entries(&mut matchers, journal);
+    Ok(flaw_at_end(replica, key, matchers.as_slice()))
 }
 
 // The same of the first key at this replica.

@@ -1,5 +1,5 @@
 //! The key steps of the columns' logs, by replica and key.
-ghost use Rattle.std.specs.Prelude.{◌≡◌, ◌++◌, ◌∷◌, [], map, replicate, slice_index_or, OnOk, IfOk};
+ghost use Rattle.std.specs.Prelude.{◌≡◌, ◌++◌, ◌∷◌, [], length, map, replicate, slice_index_or, OnOk, IfOk};
 ghost use Rattle.mk_whole.specs.Turns.{with_turn, with_turn_at, turns_at};
 
 use mk_txn::NoMemory;
@@ -23,13 +23,18 @@ impl Model for KeyTurns {
 }
 
 impl KeyTurns {
-    /// None at so many keys of so many replicas.
-    pub(crate) fn new(alloc: Global, replicas: u32, keys: u32) -> Result<KeyTurns, NoMemory>
+    /// None at so many keys of so many replicas. There is room at each key for as many as its journal has entries.
+    pub(crate) fn new(
+        alloc: Global,
+        replicas: u32,
+        keys: u32,
+        journals: &[Vec<Vec<JournalEntry>>],
+    ) -> Result<KeyTurns, NoMemory>
         ensures { IfOk result (λ turns. turns ≡ replicate replicas (replicate keys [])) }
     {
-        let mut table = Vec::new(alloc);
-        for _replica in 0..replicas {
-            table.push(no_turns(alloc, keys)?)?;
+        let mut table = Vec::with_capacity(alloc, replicas as usize)?;
+        for replica in 0..replicas {
+            table.push(no_turns(alloc, keys, journals_at(journals, replica))?)?;
         }
         Ok(KeyTurns { replicas: table })
     }
@@ -59,13 +64,37 @@ impl KeyTurns {
     }
 }
 
-// No key steps at so many keys.
-fn no_turns(alloc: Global, keys: u32) -> Result<Vec<Vec<JournalEntry>>, NoMemory>
+// The journals of this replica.
+fn journals_at(journals: &[Vec<Vec<JournalEntry>>], replica: u32) -> &[Vec<JournalEntry>]
+    ensures { result.now ≡ slice_index_or (map (λ row. row.items) journals.now) replica [] }
+{
+    match journals.get(replica as usize) {
+        Some(row) => row.as_slice(),
+        None => &[],
+    }
+}
+
+// How many entries the journal of this key has.
+fn entries_at(journals: &[Vec<JournalEntry>], key: u32) -> usize
+    ensures { result ≡ length (slice_index_or (map (λ journal. journal.items) journals.now) key []) }
+{
+    match journals.get(key as usize) {
+        Some(journal) => journal.len(),
+        None => 0,
+    }
+}
+
+// No key steps at so many keys, with room for those of these journals.
+fn no_turns(
+    alloc: Global,
+    keys: u32,
+    journals: &[Vec<JournalEntry>],
+) -> Result<Vec<Vec<JournalEntry>>, NoMemory>
     ensures { IfOk result (λ row. map (λ key. key.items) row.items ≡ replicate keys []) }
 {
-    let mut row = Vec::new(alloc);
-    for _key in 0..keys {
-        row.push(Vec::new(alloc))?;
+    let mut row = Vec::with_capacity(alloc, keys as usize)?;
+    for key in 0..keys {
+        row.push(Vec::with_capacity(alloc, entries_at(journals, key))?)?;
     }
     Ok(row)
 }

@@ -35,14 +35,15 @@ pub(crate) fn replay_work(
     ensures cells { IfOk result (λ flaw. flaw ≡ None → map (λ row. states_of row.items) cells.new.items ≡ each_done keys_done (map (λ row. states_of row.items) cells.old.items) round.now.journals) }
 {
     let count = columns.len() as u32;
-    let mut turns = KeyTurns::new(alloc, size.n(), keys)?;
+    let journals = round.journals.as_slice();
+    let mut turns = KeyTurns::new(alloc, size.n(), keys, journals)?;
     let of_logs = replay_logs(columns, round.logs.as_slice(), &mut turns)?;
     if of_logs.is_some() {
         return Ok(of_logs);
     }
-    let of_journals = replay_journals(cells, round.journals.as_slice())?;
+    let of_journals = replay_journals(cells, journals)?;
     if of_journals.is_some() {
         return Ok(of_journals);
     }
-    match_journals(count, round.journals.as_slice(), &turns, alloc)
+    match_journals(count, journals, &turns, alloc)
 }

@@ -4,4 +4,4 @@ use Rattle.std.specs.Prelude.{replicate}
 use Rattle.mk_whole.proofs.turns.no_turns.Given as goal
 
 abbrev pub invariant-loop-key : goal.invariant-loop-key
-invariant-loop-key l = map (λ key. key.items) l.row.items ≡ replicate l._key []
+invariant-loop-key l = map (λ key. key.items) l.row.items ≡ replicate l.key []

@@ -25,7 +25,7 @@ returns-then-is_some-clause-flaw c run state h =
 
 pub replay_journals-requires-clause-keys : goal.replay_journals-requires-clause-keys
 replay_journals-requires-clause-keys c =
-    subst (λ (journals : List (List (List JournalEntry))). AreEven (map (λ row. states_of row.items) c.args.cells.now.items) journals) (sym c.as_slice-2.ensures)
+    subst (λ (journals : List (List (List JournalEntry))). AreEven (map (λ row. states_of row.items) c.args.cells.now.items) journals) (sym c.as_slice-journals.ensures)
     (work-even c.requires.0 c.requires.1 c.args.size c.args.keys c.args.columns.now.items (map (λ row. states_of row.items) c.args.cells.now.items) c.args.round.now c.requires.2)
 
 pub returns-then-is_some-2-clause-flaw : goal.returns-then-is_some-2-clause-flaw
@@ -37,14 +37,14 @@ returns-then-is_some-2-clause-flaw c run state h =
     ∙ work-logs run state c.args.size c.args.keys c.args.columns.now.items (map (λ row. states_of row.items) c.args.cells.now.items) c.args.round.now h)
     (sym c.if-is_some.false ∙ c.is_some.ensures)
     (c.in_ok-of_journals.ensures.flaw
-    ∙ ap (λ (journals : List (List (List JournalEntry))). first_in flaw_at_replica 0 (map (λ row. states_of row.items) c.args.cells.now.items) journals) c.as_slice-2.ensures
+    ∙ ap (λ (journals : List (List (List JournalEntry))). first_in flaw_at_replica 0 (map (λ row. states_of row.items) c.args.cells.now.items) journals) c.as_slice-journals.ensures
     ∙ work-journals run state c.args.size c.args.keys c.args.columns.now.items (map (λ row. states_of row.items) c.args.cells.now.items) c.args.round.now h)
     (sym c.if-is_some-2.true ∙ c.is_some-2.ensures)
 
 pub match_journals-requires-clause-keys : goal.match_journals-requires-clause-keys
 match_journals-requires-clause-keys c =
-    rows-few (λ row. row.items) (λ key. key.items) (length c.requires.0.key_names) c.as_slice-3.result.now c.requires.2.few_keys
-    (subst (λ (journals : List (List (List JournalEntry))). Each (λ row. length row ≡ length c.requires.0.key_names) journals) (sym c.as_slice-3.ensures) c.requires.2.shape.keys)
+    rows-few (λ row. row.items) (λ key. key.items) (length c.requires.0.key_names) c.as_slice-journals.result.now c.requires.2.few_keys
+    (subst (λ (journals : List (List (List JournalEntry))). Each (λ row. length row ≡ length c.requires.0.key_names) journals) (sym c.as_slice-journals.ensures) c.requires.2.shape.keys)
 
 pub returns-clause-flaw : goal.returns-clause-flaw
 returns-clause-flaw c =
@@ -57,18 +57,18 @@ returns-clause-flaw c =
     ∙ work-logs run state c.args.size c.args.keys c.args.columns.now.items (map (λ row. states_of row.items) c.args.cells.now.items) c.args.round.now h)
     (sym c.if-is_some.false ∙ c.is_some.ensures)
     (c.in_ok-of_journals.ensures.flaw
-    ∙ ap (λ (journals : List (List (List JournalEntry))). first_in flaw_at_replica 0 (map (λ row. states_of row.items) c.args.cells.now.items) journals) c.as_slice-2.ensures
+    ∙ ap (λ (journals : List (List (List JournalEntry))). first_in flaw_at_replica 0 (map (λ row. states_of row.items) c.args.cells.now.items) journals) c.as_slice-journals.ensures
     ∙ work-journals run state c.args.size c.args.keys c.args.columns.now.items (map (λ row. states_of row.items) c.args.cells.now.items) c.args.round.now h)
     (sym c.if-is_some-2.false ∙ c.is_some-2.ensures)
     (e
     ∙ matches-by run state c.args.size c.args.keys c.args.columns.now.items (map (λ row. states_of row.items) c.args.cells.now.items) c.args.round.now h c.len-count.result
-    (length c.as_slice-3.result.now) (map (λ row. map (λ journal. journal.items) row.items) c.as_slice-3.result.now) c.replay_logs.new.turns
+    (length c.as_slice-journals.result.now) (map (λ row. map (λ journal. journal.items) row.items) c.as_slice-journals.result.now) c.replay_logs.new.turns
     (omega (arith, c.len-count.ensures, c.args.columns.now.ok, h.count))
-    c.as_slice-3.ensures
+    c.as_slice-journals.ensures
     (c.in_ok-of_logs.ensures.turns (none-not_some c.in_ok-of_logs.of_logs (sym c.if-is_some.false ∙ c.is_some.ensures))
     ∙ ap (λ (table : List (List (List JournalEntry))). after_all_steps 0 table (map (λ log. log.items) c.as_slice.result.now))
     (c.in_ok-turns.ensures ∙ ap (λ n. replicate n (replicate c.args.keys [])) c.n.ensures ∙ ap (λ f. replicate (members f) (replicate c.args.keys [])) h.faults
     ∙ ap (λ keys. replicate (members run.faults) (replicate keys [])) h.keys_are)
     ∙ ap (λ (logs : List (List Step)). after_all_steps 0 (replicate (members run.faults) (replicate (length run.key_names) [])) logs) c.as_slice.ensures)
-    (sym (length-map c.as_slice-3.result.now (λ row. map (λ journal. journal.items) row.items)))))
+    (sym (length-map c.as_slice-journals.result.now (λ row. map (λ journal. journal.items) row.items)))))
     c.match_journals.ensures
