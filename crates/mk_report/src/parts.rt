@@ -73,7 +73,8 @@ fn reason_word(reason: Reason) -> &'static str
     }
 }
 
-fn put_conflict(out: &mut String, keys: &Names, conflict: Conflict) -> Result<(), AllocError>
+/// Writes the key of a conflict, by its name, what the check met there, and its stamp.
+pub fn put_conflict(out: &mut String, keys: &Names, conflict: Conflict) -> Result<(), AllocError>
     ensures { OnOk result (string_bytes out.new ≡ string_bytes out.old ++ spec.conflict_text keys.now.names conflict) }
 {
     let key = name_of(keys, conflict.key);

@@ -4,6 +4,7 @@ ghost use Rattle.mk_lists.specs.Among.{Each};
 ghost use Rattle.mk_txn.specs.Transactions.{IsTransaction};
 ghost use Rattle.mk_model.specs.OneCopy.{HaveDistinctStamps, one_copy};
 ghost use Rattle.mk_history.specs.Legality.{IsLegal};
+ghost use Rattle.mk_run.specs.Attempts.{outcomes_of};
 ghost use Rattle.mk_report.specs.Commits.{commit_in, commits_in};
 ghost use Rattle.mk_report.specs.RunReports.{json_of, report_of, summary_of};
 
@@ -11,7 +12,7 @@ use crate::laws::{commits_are_distinct, commits_are_transactions};
 use crate::report::{is_committed, put_report, put_summary};
 use crate::whole_json::json_bytes;
 use mk_replay::{OneCopy, replay};
-use mk_run::{AttemptLine, Run, outcomes};
+use mk_run::{AttemptLine, Run};
 use mk_txn::{NoMemory, Stamp, Txn, TxnError};
 use std::alloc::Global;
 
@@ -65,59 +66,59 @@ fn copy_of(alloc: Global, lines: &[AttemptLine]) -> Result<OneCopy, NoMemory>
     replay(alloc, &txns)
 }
 
-/// The report of a run.
-pub fn report_text(alloc: Global, run: &Run) -> Result<Vec<u8>, NoMemory>
-    requires { IsLegal run.now }
+/// The report of a run whose outcomes these lines are.
+pub fn report_text(alloc: Global, run: &Run, lines: &[AttemptLine]) -> Result<Vec<u8>, NoMemory>
+    requires legal { IsLegal run.now }
+    requires lines { lines.now ≡ outcomes_of run.now }
     ensures { IfOk result (λ text. text.items ≡ report_of run.now) }
 {
     commits_are_distinct();
     commits_are_transactions();
-    let lines = outcomes(alloc, run)?;
     let head = run.head();
-    let copy = copy_of(alloc, &lines)?;
+    let copy = copy_of(alloc, lines)?;
     let mut out = String::new(alloc);
     put_report(
         &mut out,
         alloc,
         &head.client_names,
         &head.key_names,
-        &lines,
+        lines,
         run.rounds(),
         &copy,
     )?;
     Ok(out.into_bytes())
 }
 
-/// The last line of the report of a run, and the count and the sum of its store lines.
-pub fn summary_text(alloc: Global, run: &Run) -> Result<Vec<u8>, NoMemory>
-    requires { IsLegal run.now }
+/// The last line of the report of a run whose outcomes these lines are, and the count and the sum of its store lines.
+pub fn summary_text(alloc: Global, run: &Run, lines: &[AttemptLine]) -> Result<Vec<u8>, NoMemory>
+    requires legal { IsLegal run.now }
+    requires lines { lines.now ≡ outcomes_of run.now }
     ensures { IfOk result (λ text. text.items ≡ summary_of run.now) }
 {
     commits_are_distinct();
     commits_are_transactions();
-    let lines = outcomes(alloc, run)?;
     let head = run.head();
-    let copy = copy_of(alloc, &lines)?;
+    let copy = copy_of(alloc, lines)?;
     let mut out = String::new(alloc);
-    put_summary(&mut out, alloc, &head.key_names, &lines, &copy)?;
+    put_summary(&mut out, alloc, &head.key_names, lines, &copy)?;
     Ok(out.into_bytes())
 }
 
-/// The JSON of a run.
-pub fn json_text(alloc: Global, run: &Run) -> Result<Vec<u8>, NoMemory>
-    requires { IsLegal run.now }
+/// The JSON of a run whose outcomes these lines are.
+pub fn json_text(alloc: Global, run: &Run, lines: &[AttemptLine]) -> Result<Vec<u8>, NoMemory>
+    requires legal { IsLegal run.now }
+    requires lines { lines.now ≡ outcomes_of run.now }
     ensures { IfOk result (λ text. text.items ≡ json_of run.now) }
 {
     commits_are_distinct();
     commits_are_transactions();
-    let lines = outcomes(alloc, run)?;
     let head = run.head();
-    let copy = copy_of(alloc, &lines)?;
+    let copy = copy_of(alloc, lines)?;
     json_bytes(
         alloc,
         &head.client_names,
         &head.key_names,
-        &lines,
+        lines,
         run.rounds(),
         &copy,
     )

@@ -16,10 +16,7 @@ use std::collections::BTreeMap;
 pub(crate) const ZERO: Stamp = Stamp { time: 0, client: 0 };
 
 /// The numbers of the names, the names ascending by their bytes.
-pub(crate) fn by_name<'a>(
-    alloc: Global,
-    names: &'a Names,
-) -> Result<BTreeMap<&'a str, u32>, NoMemory>
+pub fn by_name<'a>(alloc: Global, names: &'a Names) -> Result<BTreeMap<&'a str, u32>, NoMemory>
     ensures { IfOk result (λ table. map seen_entry table.entries ≡ spec.by_name names.now.names) }
 {
     let mut table = BTreeMap::new(alloc);
@@ -29,7 +26,13 @@ pub(crate) fn by_name<'a>(
     Ok(table)
 }
 
-fn put_held(out: &mut String, name: &str, version: Stamp, value: Value) -> Result<(), AllocError>
+/// Writes the line of what is held of a key, where it was written.
+pub fn put_held(
+    out: &mut String,
+    name: &str,
+    version: Stamp,
+    value: Value,
+) -> Result<(), AllocError>
     ensures { OnOk result (string_bytes out.new ≡ string_bytes out.old ++ spec.held_text name.now (record { version = version; value = value })) }
 {
     if precedes(ZERO, version) {

@@ -1,6 +1,6 @@
 //! The report, the summary and the JSON of runs that were read.
 use mk_report::{json_text, report_text, summary_text};
-use mk_run::{Run, Verdict, check};
+use mk_run::{Run, Verdict, check, outcomes};
 use mk_trace::read_trace;
 use std::alloc::Global;
 use std::test::*;
@@ -45,8 +45,9 @@ fn read(alloc: Global, text: &str) -> Result<Box<Run>, Fail> {
 fn is_told(alloc: Global, run: &Run, report: &str, summary: &str) -> Result<bool, Fail> {
     match check(alloc, run)? {
         Verdict::Legal => {
-            let told = report_text(alloc, run)?;
-            let summed = summary_text(alloc, run)?;
+            let lines = outcomes(alloc, run)?;
+            let told = report_text(alloc, run, lines.as_slice())?;
+            let summed = summary_text(alloc, run, lines.as_slice())?;
             Ok(told.as_slice() == report.as_bytes() && summed.as_slice() == summary.as_bytes())
         }
         Verdict::Broken { .. } => Ok(false),
@@ -56,7 +57,11 @@ fn is_told(alloc: Global, run: &Run, report: &str, summary: &str) -> Result<bool
 /// Whether the run is legal and has this JSON.
 fn has_json(alloc: Global, run: &Run, json: &str) -> Result<bool, Fail> {
     match check(alloc, run)? {
-        Verdict::Legal => Ok(json_text(alloc, run)?.as_slice() == json.as_bytes()),
+        Verdict::Legal => {
+            let lines = outcomes(alloc, run)?;
+            let told = json_text(alloc, run, lines.as_slice())?;
+            Ok(told.as_slice() == json.as_bytes())
+        }
         Verdict::Broken { .. } => Ok(false),
     }
 }

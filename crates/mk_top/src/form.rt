@@ -1,10 +1,10 @@
 //! What the words of a call ask for.
 ghost use Rattle.std.specs.Prelude.{◌≡◌, ◌≤◌, IfOk, IfSome, map};
 ghost use Rattle.std.specs.String.{string_bytes};
-ghost use Rattle.std.specs.Str.{bytes_eq};
 ghost use Rattle.mk_spelling.specs.Words.{number as number_in};
 ghost use Rattle.mk_top.specs.Forms as spec;
 
+use mk_ending::is_word;
 use mk_spelling::TextFault;
 use mk_text::number;
 
@@ -33,16 +33,10 @@ pub enum Form {
     Summary(Load),
 }
 
-fn is(word: &String, text: &str) -> bool
-    ensures { result ≡ bytes_eq (string_bytes word.now) text.now }
-{
-    word.as_str() == text
-}
-
 fn one_word(word: &String) -> Option<Form>
     ensures { result ≡ spec.one_word (string_bytes word.now) }
 {
-    if is(word, "run") {
+    if is_word(word, "run") {
         Some(Form::Report)
     } else {
         None
@@ -52,9 +46,9 @@ fn one_word(word: &String) -> Option<Form>
 fn option_form(option: &String) -> Option<Form>
     ensures { result ≡ spec.option_form (string_bytes option.now) }
 {
-    if is(option, "--trace") {
+    if is_word(option, "--trace") {
         Some(Form::Trace)
-    } else if is(option, "--json") {
+    } else if is_word(option, "--json") {
         Some(Form::Json)
     } else {
         None
@@ -64,7 +58,7 @@ fn option_form(option: &String) -> Option<Form>
 fn two_words(word: &String, option: &String) -> Option<Form>
     ensures { result ≡ spec.two_words (string_bytes word.now) (string_bytes option.now) }
 {
-    if is(word, "run") {
+    if is_word(word, "run") {
         option_form(option)
     } else {
         None
@@ -112,7 +106,7 @@ fn five_words(
     ensures is { result ≡ spec.five_words (string_bytes word.now) (string_bytes number.now) (string_bytes clients.now) (string_bytes txns.now) (string_bytes keys.now) }
     ensures fits { IfSome result spec.Fits }
 {
-    if !is(word, "gen") {
+    if !is_word(word, "gen") {
         return None;
     }
     match load_in(number, clients, txns, keys) {

@@ -4,7 +4,7 @@ ghost use Rattle.std.specs.String.{string_bytes};
 ghost use Rattle.std.specs.List.{list_any};
 ghost use Rattle.mk_history.specs.Legality.{IsLegal};
 ghost use Rattle.mk_report.specs.RunReports.{summary_of};
-ghost use Rattle.mk_run.specs.Attempts.{is_open as spec_open};
+ghost use Rattle.mk_run.specs.Attempts.{is_open as spec_open, outcomes_of};
 ghost use Rattle.mk_top.specs.Runs.{has_left, load_line, text_of};
 
 use crate::form::{Form, Load};
@@ -29,28 +29,35 @@ fn put_load(out: &mut String, load: Load) -> Result<(), AllocError>
     Ok(())
 }
 
-fn summary(alloc: Global, load: Load, run: &Run) -> Result<Vec<u8>, NoMemory>
-    requires { IsLegal run.now }
+fn summary(alloc: Global, load: Load, run: &Run, lines: &[AttemptLine]) -> Result<Vec<u8>, NoMemory>
+    requires legal { IsLegal run.now }
+    requires lines { lines.now ≡ outcomes_of run.now }
     ensures { IfOk result (λ text. text.items ≡ load_line load ++ summary_of run.now) }
 {
     let mut line = String::new(alloc);
     put_load(&mut line, load)?;
     let mut text = line.into_bytes();
-    let told = summary_text(alloc, run)?;
+    let told = summary_text(alloc, run, lines)?;
     text.extend_from_slice(told.as_slice())?;
     Ok(text)
 }
 
-/// The text of a run that the form asks for.
-fn text_of_run(alloc: Global, form: Form, run: &Run) -> Result<Vec<u8>, NoMemory>
-    requires { IsLegal run.now }
+/// The text that the form asks for of a run whose outcomes these lines are.
+fn text_of_run(
+    alloc: Global,
+    form: Form,
+    run: &Run,
+    lines: &[AttemptLine],
+) -> Result<Vec<u8>, NoMemory>
+    requires legal { IsLegal run.now }
+    requires lines { lines.now ≡ outcomes_of run.now }
     ensures { IfOk result (λ text. text.items ≡ text_of form run.now) }
 {
     match form {
-        Form::Report => report_text(alloc, run),
+        Form::Report => report_text(alloc, run, lines),
         Form::Trace => write_trace(alloc, run),
-        Form::Json => json_text(alloc, run),
-        Form::Summary(load) => summary(alloc, load, run),
+        Form::Json => json_text(alloc, run, lines),
+        Form::Summary(load) => summary(alloc, load, run, lines),
     }
 }
 
@@ -81,8 +88,8 @@ pub fn tell(alloc: Global, form: Form, run: Run) -> Result<Told, NoMemory>
     ensures text { IfOk result (λ told. told.text.items ≡ text_of form run) }
     ensures left { IfOk result (λ told. told.is_left ≡ has_left run) }
 {
-    let text = text_of_run(alloc, form, &run)?;
     let lines = outcomes(alloc, &run)?;
+    let text = text_of_run(alloc, form, &run, lines.as_slice())?;
     let is_left = any_open(lines.as_slice());
     Ok(Told { run, text, is_left })
 }
