@@ -16,9 +16,11 @@ A table NAME.table has an input and its answer on each line. Its head says what 
   begin LINES    the input begins with these lines
   base FILE      the input is this file with the row's changes
   text LINES     the same of these lines
+  trace FILE     the same of the trace that `run --trace` writes for this script
 
-A row is `INPUT => STATUS ANSWER`. In both ` / ` stands for a line feed, and each text ends with one. `N * LINE` stands for N lines,
-with `{}` for the numbers from 1. The answer of statuses 0, 6 and 7 is what is written, of every other the line on standard error.
+Each of these holds for the rows below it, so that a table may ask several words of one input. A row is `INPUT => STATUS ANSWER`, and
+`=> STATUS ANSWER` where nothing is changed. In both ` / ` stands for a line feed, and each text ends with one. `N * LINE` stands for
+N lines, with `{}` for the numbers from 1. The answer of statuses 0, 6 and 7 is what is written, of every other the line on standard error.
 The changes of a row are joined by ` ; `: `N = LINES` line N is this, `N < LINES` these stand before it, `N > LINES` behind it, `N -`
 it is left out. `A to B bytes` stands for the first A bytes, and for each further number up to B.
 
@@ -87,6 +89,8 @@ def inputs(given, begin, base):
     """The inputs that a row stands for."""
     if base is None:
         return [begin + text_of(given)]
+    if not given:
+        return [base]
     prefix = PREFIX.fullmatch(given)
     if prefix:
         return [base[:count] for count in range(int(prefix[1]), int(prefix[2]) + 1)]
@@ -143,6 +147,8 @@ class Examples:
                 base = (EXAMPLES / line[len("base ") :]).read_text()
             elif line.startswith("text "):
                 base = text_of(line[len("text ") :])
+            elif line.startswith("trace "):
+                base = ran(["run", "--trace"], (EXAMPLES / line[len("trace ") :]).read_bytes())[1]
             else:
                 self.run_row(table, words, begin, base, line)
 

@@ -38,7 +38,7 @@ fn refused(rt: &impl Eprint, why: Why) -> ExitCode {
 /// Whether the first word is one of the call that reads traces.
 fn reads_trace(words: &[String]) -> bool {
     match words {
-        [first, ..] => first.as_str() == "check",
+        [first, ..] => matches!(first.as_str(), "check" | "at" | "why"),
         [] => false,
     }
 }

@@ -1,5 +1,5 @@
 -- Rounds that are judged while their trace is read.
-use Rattle.std.proofs.Common.{zero, suc, ◌<◌, Result, Ok, Err, OnOk, take, drop, drop_at, ◌≡◌, ◌∙◌, ◌+◌, ◌≤◌, ℕ, false, refl, sym, ap, subst, arith, List, [], ◌∷◌, ◌++◌, length, length-append, append_assoc, Option, Some, None}
+use Rattle.std.proofs.Common.{◌<◌, Result, Ok, Err, OnOk, drop, drop_at, ◌≡◌, ◌∙◌, ◌+◌, ◌≤◌, ℕ, false, refl, sym, ap, subst, arith, List, [], ◌∷◌, ◌++◌, length, length-append, append_assoc, Option, Some, None}
 use Rattle.std.proofs.lemmas.Option.{same_Some}
 use Rattle.std.specs.Borrow.{Bor}
 use Rattle.std.specs.Option.{IsSome, option_copied}
@@ -348,9 +348,3 @@ module _ (reader : Option Reading) (judge : Option JudgeView) (text : List ℕ) 
     where
       ok_run : History → Result History (ℕ × TextFault)
       ok_run run = Ok run
-
--- a front of a front
-pub take_front : (n : ℕ) (xs ys : List ℕ) → n ≤ length xs → take n (xs ++ ys) ≡ take n xs
-take_front zero xs ys low = refl
-take_front (suc n) [] ys low = absurd (omega (arith, low))
-take_front (suc n) (x ∷ xs) ys low = ap (λ (rest : List ℕ). x ∷ rest) (take_front n xs ys (omega (arith, low)))

@@ -1,6 +1,8 @@
-//! The calls that read traces: `tool_top` with the word `check` judges anybody's trace.
+//! The call that reads traces: `tool_top` judges anybody's trace, and tells what its store held and why its attempts ended so.
 #![tactic(auto)]
 
+mod answering;
+mod asking;
 mod judging;
 mod reading;
 mod spelling;

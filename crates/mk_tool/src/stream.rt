@@ -109,32 +109,32 @@ impl Stream {
         let judge = self.judge.as_ref().unwrap();
         Ok(said(self.alloc, head, judge)?)
     }
-}
 
-/// Reads a source that has at most TRACE_LIMIT bytes to its end, and judges on the way. It takes at most one byte more.
-pub fn stream_from<S: Source>(alloc: Global, source: &mut S) -> Result<Stream, ReadError>
-    ensures whole { IfOk result (λ stream. (text : List ℕ) × TakesAll (S.left source.old) (S.left source.new) text × (length text ≤ trace_limit) × IsAllJudged stream.reader stream.judge text) }
-    ensures too_long { result ≡ Err ReadError.TooLong → TakesCount (S.left source.old) (S.left source.new) (trace_limit + 1) }
-    ensures not_too_long { result ≢ Err ReadError.TooLong → TakesAtMost (S.left source.old) (S.left source.new) trace_limit }
-    ensures fault { result ≡ Err ReadError.Fault → HasRisen (S.faults source.old) (S.faults source.new) }
-{
-    let mut stream = Stream::new(alloc);
-    let mut buf = [0; CHUNK];
-    let mut taken = 0;
-    loop {
-        // One byte more than there is room for shows that the source has more.
-        let room = TRACE_LIMIT - taken;
-        let size = if room < CHUNK { room + 1 } else { CHUNK };
-        let count = source.read(&mut buf[..size])?;
-        if count == 0 {
-            return Ok(stream);
-        }
-        if count > room {
-            return Err(ReadError::TooLong);
-        }
-        match stream.take(&buf[..count]) {
-            Ok(()) => taken += count,
-            Err(NoMemory) => return Err(ReadError::NoMemory),
+    /// Reads a source that has at most TRACE_LIMIT bytes to its end, and judges on the way. It takes at most one byte more.
+    pub fn read<S: Source>(&mut self, source: &mut S) -> Result<(), ReadError>
+        requires { IsAllJudged self.old.reader self.old.judge [] }
+        ensures whole { OnOk result ((text : List ℕ) × TakesAll (S.left source.old) (S.left source.new) text × (length text ≤ trace_limit) × IsAllJudged self.new.reader self.new.judge text) }
+        ensures too_long { result ≡ Err ReadError.TooLong → TakesCount (S.left source.old) (S.left source.new) (trace_limit + 1) }
+        ensures not_too_long { result ≢ Err ReadError.TooLong → TakesAtMost (S.left source.old) (S.left source.new) trace_limit }
+        ensures fault { result ≡ Err ReadError.Fault → HasRisen (S.faults source.old) (S.faults source.new) }
+    {
+        let mut buf = [0; CHUNK];
+        let mut taken = 0;
+        loop {
+            // One byte more than there is room for shows that the source has more.
+            let room = TRACE_LIMIT - taken;
+            let size = if room < CHUNK { room + 1 } else { CHUNK };
+            let count = source.read(&mut buf[..size])?;
+            if count == 0 {
+                return Ok(());
+            }
+            if count > room {
+                return Err(ReadError::TooLong);
+            }
+            match self.take(&buf[..count]) {
+                Ok(()) => taken += count,
+                Err(NoMemory) => return Err(ReadError::NoMemory),
+            }
         }
     }
 }

@@ -87,3 +87,37 @@ fn other_words_and_other_bytes_are_refused(rt: HostRuntime) -> Result<(), Fail> 
     assert!(rt; sink.bytes().is_empty());
     Ok(())
 }
+
+/// The call with these two words over a trace in memory.
+fn ask(
+    alloc: Global,
+    word: &str,
+    other: &str,
+    trace: &[u8],
+    sink: &mut MemSink,
+) -> Result<ToolDone, Fail> {
+    let words = vec![in alloc;
+        String::from_str(alloc, word)?,
+        String::from_str(alloc, other)?,
+    ]?;
+    let mut source = MemSource::new(alloc, trace, 100, &[0])?;
+    Ok(tool_top(alloc, words.as_slice(), &mut source, sink))
+}
+
+#[test]
+fn the_past_is_told_and_a_missing_attempt_is_not(rt: HostRuntime) -> Result<(), Fail> {
+    let mut sink = MemSink::new(rt.alloc(), 5, &[])?;
+    let past = ask(rt.alloc(), "at", "10.1", empty(), &mut sink)?;
+    assert!(rt; past.status == 0 && past.why.is_none() && past.verdict == Some(Verdict::Legal));
+    assert!(rt; sink.bytes() == b"at 10.1 0\n".as_slice());
+    let missing = ask(rt.alloc(), "why", "a.1", empty(), &mut sink)?;
+    assert!(rt;
+        missing.status == 10
+            && missing.why == Some(Why::NoAttempt)
+            && missing.verdict == Some(Verdict::Legal)
+    );
+    let usage = ask(rt.alloc(), "why", "a.0", empty(), &mut sink)?;
+    assert!(rt; usage.status == 1 && usage.why == Some(Why::Usage));
+    assert!(rt; sink.bytes() == b"at 10.1 0\n".as_slice());
+    Ok(())
+}
