@@ -1,0 +1,10 @@
+pub mod Counting
+pub mod OrderLaws
+pub mod Entries
+pub mod CommitLaws
+pub mod Passing
+pub mod MarkLaws
+pub mod Watermarks
+pub mod Keeps
+pub mod Showing
+pub mod Taking

@@ -1,0 +1,2 @@
+-- Tests of the follower.
+pub mod Fitting

@@ -1,0 +1,5 @@
+//! Tests of the follower.
+#![tactic(auto)]
+
+#[cfg(test)]
+mod follower;
