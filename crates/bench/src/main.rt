@@ -5,6 +5,7 @@
 mod columns;
 mod lane;
 mod legal;
+mod round;
 mod runs;
 mod scripts;
 mod texts;
