@@ -43,6 +43,13 @@ impl Run {
         &self.head
     }
 
+    /// A run that is kept has the shape of a run. The function does nothing.
+    pub fn has_shape(&self)
+        ensures { HasShape self.now }
+    {
+        let _head = self.head();
+    }
+
     /// The rounds, in order.
     pub fn rounds(&self) -> &[RoundLog]
         ensures { result.now ≡ self.now.rounds }

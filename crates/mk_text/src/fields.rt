@@ -34,6 +34,9 @@ pub fn is_number(word: &[u8]) -> bool
     }
 }
 
+/// The digits of 2^64 - 1 but for its last, which is 5.
+const LAST_TENTH: u64 = 1844674407370955161;
+
 /// The value of digits, where it is below 2^64.
 pub fn value(digits: &[u8]) -> Option<u64>
     requires { IsTrue (spec.are_digits digits.now) }
@@ -41,11 +44,11 @@ pub fn value(digits: &[u8]) -> Option<u64>
 {
     let mut n: u64 = 0;
     'digits: for b in digits {
-        let next = u128::from(n) * 10 + u128::from(*b - b'0');
-        if next > u64::MAX as u128 {
+        let digit = u64::from(*b - b'0');
+        if n > LAST_TENTH || n == LAST_TENTH && digit > 5 {
             return None;
         }
-        n = next as u64;
+        n = n * 10 + digit;
     }
     Some(n)
 }

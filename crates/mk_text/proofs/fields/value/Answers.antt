@@ -6,8 +6,8 @@ use Rattle.std.specs.Str.Parse.{digits_value, digits_value_after}
 use Rattle.mk_spelling.proofs.Numbers.{le-digits_value_after, digit_value_at}
 use Rattle.mk_text.proofs.fields.value.Goals as goal
 
-pub returns-then-next : goal.returns-then-next
-returns-then-next c =
+pub returns-then-n-gt-LAST_TENTH : goal.returns-then-n-gt-LAST_TENTH
+returns-then-n-gt-LAST_TENTH c =
     let l = c.digits in
     let ds = c.args.digits.now in
     let i = l.b-index in
