@@ -1,13 +1,13 @@
 //! Acts with their answers as words.
-ghost use Rattle.std.specs.Prelude.{◌≡◌, true, false, if◌then◌else◌};
+ghost use Rattle.std.specs.Prelude.{◌≡◌, true, false};
 ghost use Rattle.mk_spelling.specs.Words.{words_behind};
 ghost use Rattle.mk_spelling.specs.Fields.{found, named};
-ghost use Rattle.mk_spelling.specs.declared.fault.TextFault.TheVariants.{Large, Number, Unknown};
+ghost use Rattle.mk_spelling.specs.declared.fault.TextFault.TheVariants.{Unknown};
 ghost use Rattle.mk_trace_lines.specs.LineWords as texts;
 ghost use Rattle.mk_trace_lines.specs.Seen.{seen_first, seen_stamp, seen_answer, seen_act, stamped, answered, acted};
 ghost use Rattle.mk_trace_lines.specs.ActShapes as spec;
 
-use crate::numbers::small_number;
+use crate::numbers::{any_number, number_fault, small_number};
 use crate::words::ActWord;
 use mk_text::{TextFault, cut_word, is_number, next_word, none_left, one, two};
 use mk_txn::{LAST_TIME, Reason, Stamp, Value};
@@ -193,17 +193,6 @@ fn stamp(parts: Stamped<'_>) -> Result<Stamp, TextFault>
     }
 }
 
-/// Why a number does not fit: it is above its range, or none.
-fn number_fault(is_number: bool) -> TextFault
-    ensures { result ≡ (if is_number then Large else Number) }
-{
-    if is_number {
-        TextFault::Large
-    } else {
-        TextFault::Number
-    }
-}
-
 /// The value that the word is: a number, or in version 2 `none`.
 pub fn value(version: u32, word: &[u8]) -> Result<Value, TextFault>
     ensures { result ≡ spec.value_of version word.now }
@@ -211,10 +200,7 @@ pub fn value(version: u32, word: &[u8]) -> Result<Value, TextFault>
     if version == 2 && is_none(word) {
         return Ok(Value::Absent);
     }
-    match small_number(word) {
-        Some(n) => Ok(Value::Number(n)),
-        None => Err(number_fault(is_number(word))),
-    }
+    Ok(Value::Number(any_number(word)?))
 }
 
 fn is_none(word: &[u8]) -> bool
