@@ -11,3 +11,4 @@ mod TellLaws
 mod EnterLaws
 mod WatchLaws
 mod StandLaws
+mod WalkLaws

@@ -22,7 +22,7 @@ use Rattle.mk_run.proofs.FirstLaws.{all_noted_stand}
 use Rattle.mk_run.proofs.NewsLaws.{all_noted-append}
 use Rattle.mk_run.proofs.RoundLaws.{EachTellsRightly, learned_by, round-news, lines-news}
 
-found-push : (first last : ℕ) (run : History) (state : WholeState) (entered : List ℕ) (rounds : List RoundLog) (round : RoundLog) → last ≡ length rounds + first →
+pub found-push : (first last : ℕ) (run : History) (state : WholeState) (entered : List ℕ) (rounds : List RoundLog) (round : RoundLog) → last ≡ length rounds + first →
     found_from first run state entered (rounds ++ round ∷ [])
     ≡ found_from first run state entered rounds ++ found_in_round last run (state_through run state rounds) (entered_along entered rounds) round
 found-push first last run state entered [] round e =

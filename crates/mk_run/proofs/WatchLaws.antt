@@ -55,7 +55,7 @@ known-ended : (views : List ColumnView) (columns : List ColumnState) → map rea
 known-ended views columns is =
     known-heard views ∙ ap (map (λ (learned : List Learning). length learned)) (heard-ended views columns is) ∙ sym (known-learned columns)
 
-entered-push : (entered : List ℕ) (done : List RoundLog) (round : RoundLog) → entered_along entered (done ++ round ∷ []) ≡ entered_through (entered_along entered done) round.globals
+pub entered-push : (entered : List ℕ) (done : List RoundLog) (round : RoundLog) → entered_along entered (done ++ round ∷ []) ≡ entered_through (entered_along entered done) round.globals
 entered-push entered [] round = refl
 entered-push entered (r ∷ done) round = entered-push (entered_through entered r.globals) done round
 

@@ -5,3 +5,4 @@ pub mod Lines
 pub mod Counting
 pub mod News
 pub mod Judging
+pub mod Walking

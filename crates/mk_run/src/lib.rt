@@ -8,6 +8,7 @@ mod hearing;
 mod judge;
 mod line;
 mod lines;
+mod walk;
 mod watch;
 
 pub use judge::{Judge, check, outcomes};
@@ -16,3 +17,4 @@ pub use mk_history::{ColumnNumbers, Globals, Journals, Left, Logs, Path, RoundLo
 pub use mk_kept::{Head, Run};
 pub use mk_verdict::{Flaw, Place, Verdict};
 pub use mk_words::{GlobalAnswer, GlobalEntry, GlobalLine, JournalEntry, Step, Writes};
+pub use walk::Walk;
