@@ -27,7 +27,8 @@ pub fn put_attempt(
     put_state(out, keys, attempt.state)?;
     put_reads(out, keys, attempt.reads.as_slice())?;
     put_writes(out, keys, attempt.writes.as_slice())?;
-    out.push_str("\n")
+    out.push_str("\n")?;
+    Ok(())
 }
 
 fn put_stamp_part(out: &mut String, stamp: Option<Stamp>) -> Result<(), AllocError>
