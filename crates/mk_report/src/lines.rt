@@ -1,6 +1,6 @@
 //! The lines of a report.
-ghost use Rattle.std.specs.Prelude.{◌≡◌, ◌++◌, OnOk};
-ghost use Rattle.std.specs.List.{join_with_byte};
+ghost use Rattle.std.specs.Prelude.{◌≡◌, ◌∷◌, ◌++◌, [], OnOk};
+ghost use Rattle.std.specs.List.{flat_map, join_with_byte};
 ghost use Rattle.std.specs.String.{string_bytes};
 ghost use Rattle.mk_script.specs.Grammar.{global_words};
 ghost use Rattle.mk_report.specs.ReportTexts as spec;
@@ -25,6 +25,13 @@ pub fn put_attempt(
     put_stamp_part(out, attempt.stamp)?;
     out.push_str(" ")?;
     put_state(out, keys, attempt.state)?;
+    put_accesses(out, keys, attempt)
+}
+
+// What the attempt read and what it writes, to the line's end.
+fn put_accesses(out: &mut String, keys: &Names, attempt: &AttemptLine) -> Result<(), AllocError>
+    ensures { OnOk result (string_bytes out.new ≡ string_bytes out.old ++ (flat_map (spec.read_text keys.now.names) attempt.now.reads ++ (flat_map (spec.write_text keys.now.names) attempt.now.writes ++ 10 ∷ []))) }
+{
     put_reads(out, keys, attempt.reads.as_slice())?;
     put_writes(out, keys, attempt.writes.as_slice())?;
     out.push_str("\n")?;
