@@ -34,8 +34,7 @@ fn put_accesses(out: &mut String, keys: &Names, attempt: &AttemptLine) -> Result
 {
     put_reads(out, keys, attempt.reads.as_slice())?;
     put_writes(out, keys, attempt.writes.as_slice())?;
-    out.push_str("\n")?;
-    Ok(())
+    out.push_str("\n")
 }
 
 fn put_stamp_part(out: &mut String, stamp: Option<Stamp>) -> Result<(), AllocError>
