@@ -149,7 +149,7 @@ class Bench:
     def once(self, word, text, many=MANY):
         """The seconds of doing once what the word says."""
         took = (self.word(word, text, many).seconds - self.word(word, text, 1).seconds) / (many - 1)
-        if took < SHORT and word not in ROUND_WORDS and many <= MANY:
+        if took < SHORT and word != "drive" and many <= MANY:
             return self.once(word, text, int(FILLED / max(took, FILLED / 10_000)))
         return took
 
@@ -227,9 +227,9 @@ def bench_work(b):
         if steps != beside:
             sys.exit(f"bench.py: {count} workers do {steps} steps, and as many columns in one thread {beside}")
         work, drive = (b.once(word, load) for word in ROUND_WORDS)
-        by_time(f"a round of {steps} steps, {count} workers with locks, beside as many columns in one thread over plain cells", work, drive, 1.25)
+        by_time(f"a round of {steps} steps, {count} workers with locks, beside as many columns in one thread over plain cells", work - b.once("begin", load), drive, 1.25)
     for count in (2, 4, 8):
-        alone, several = (b.end("work", loads[it]) for it in (1, count))
+        alone, several = (b.end("work", loads[it]) - b.end("begin", loads[it]) for it in (1, count))
         row(f"the same from start to end, 1 worker, beside {count}", told(alone), told(several), alone / several, least=3.5 if count == 4 else None)
 
 

@@ -5,7 +5,7 @@
 mod columns;
 mod lane;
 mod legal;
-mod ready;
+mod round;
 mod runs;
 mod scripts;
 mod texts;

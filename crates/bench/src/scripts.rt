@@ -1,6 +1,6 @@
 //! Scripts whose first round is done.
 use crate::lane::Lanes;
-use crate::ready::Ready;
+use crate::round;
 use crate::word::ScriptWord;
 use mk_gen::generate;
 use mk_proc::{Proc, ProcKind, Procs, add, max, sum};
@@ -9,7 +9,7 @@ use std::alloc::Global;
 use std::sync::Wait;
 use std::thread::Threads;
 
-/// How many stores, or sets of columns, are begun before the first of them goes on. That many rounds can be done.
+/// How many sets of columns are begun before the first of them goes on. That many can go.
 const BEGUN: usize = 16;
 
 /// The text of the script of so many transactions by 64 clients in eight columns, each client on keys of its own. None for
@@ -22,8 +22,16 @@ pub fn load(alloc: Global, txns: u32) -> Option<Vec<u8>> {
     print(alloc, &script).ok()
 }
 
-/// How many steps the first round of a script has, which is done so many times with a thread for each column. None for more
-/// than 16 times.
+/// The script's first round is made ready so many times. What it came to is how many clients there are.
+fn begin(alloc: Global, script: &Script, times: u32) -> Option<usize> {
+    let mut count = 0;
+    for _ in 0..times {
+        count = round::begin(alloc, script)?;
+    }
+    Some(count)
+}
+
+/// How many steps the first round of a script has, which is made ready and done so many times with a thread for each column.
 fn work<R: Threads + Wait + Sync>(
     rt: &R,
     alloc: Global,
@@ -31,13 +39,9 @@ fn work<R: Threads + Wait + Sync>(
     procs: &Procs,
     times: u32,
 ) -> Option<usize> {
-    let mut begun = Vec::new(alloc);
-    for _ in 0..BEGUN {
-        begun.push(Ready::new(alloc, script)?).ok()?;
-    }
     let mut count = 0;
     for _ in 0..times {
-        count = begun.pop()?.work(rt, alloc, procs)?;
+        count = round::work(rt, alloc, script, procs)?;
     }
     Some(count)
 }
@@ -71,6 +75,7 @@ pub fn repeat<R: Threads + Wait + Sync>(
         Proc::new(ProcKind::Max, max),
     );
     match word {
+        ScriptWord::Begin => begin(alloc, &script, times),
         ScriptWord::Work => work(rt, alloc, &script, &procs, times),
         ScriptWord::Drive => drive(alloc, &script, &procs, times),
     }

@@ -16,7 +16,9 @@ pub enum TextWord {
 /// What is done to a script.
 #[derive(Clone, Copy)]
 pub enum ScriptWord {
-    /// Its first round is done, with a thread for each column.
+    /// Its first round is made ready.
+    Begin,
+    /// Its first round is made ready, and done with a thread for each column.
     Work,
     /// The same in one thread over plain cells, one column after another.
     Drive,
@@ -68,6 +70,7 @@ fn text_word(word: &[u8]) -> Option<Word> {
 
 fn script_word(word: &[u8]) -> Option<Word> {
     match word {
+        b"begin" => Some(Word::Script(ScriptWord::Begin)),
         b"work" => Some(Word::Script(ScriptWord::Work)),
         b"drive" => Some(Word::Script(ScriptWord::Drive)),
         _ => None,
