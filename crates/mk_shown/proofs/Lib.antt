@@ -1,0 +1,5 @@
+mod BoundLaws
+mod MemberLaws
+mod ToldLaws
+mod GatherLaws
+mod WatermarkLaws
