@@ -3,20 +3,25 @@
 
   tools/bench.py [--tries N] [--only WORD]   WORD is one of run, work, trace, report, past, top
 
-A time is processor time, the least of N tries (5). What a word of `bench` takes once is the difference between doing it many times
-and doing it once, so that start and reading are not in it. Memory is the peak of resident memory, and never less than this tool's
-own, some 15 MB; that of a word is what it adds to doing nothing to the same input.
+A time is processor time, unless it is said to be from start to end, and the best of N tries (5). What a word of `bench` takes once is
+the difference between doing it many times and doing it once, so that start and reading are not in it: 11 times, and as often as fills
+half a second where it is short. Memory is the peak of resident memory, and never less than this tool's own, some 15 MB; that of a word
+is what it adds to doing nothing to the same input.
 """
 import argparse
 import os
 import subprocess
 import sys
 import tempfile
+import time
+from types import SimpleNamespace
 
 TOP = os.path.dirname(os.path.dirname(os.path.abspath(__file__)))
 CLIENTS, COLUMNS, TXNS, KEYS = 64, 8, 4096, 256
 QUESTIONS = 100_000
 MANY = 11
+SHORT, FILLED = 0.005, 0.5
+ROUND_WORDS = ("work", "drive")
 
 
 def program(name):
@@ -33,8 +38,10 @@ class Measured:
 
     def __init__(self, words, text, out):
         with open(text, "rb") as read, open(out, "wb") as write:
+            began = time.monotonic()
             child = subprocess.Popen(words, stdin=read, stdout=write)
             _, status, usage = os.wait4(child.pid, 0)
+            self.elapsed = time.monotonic() - began
         child.returncode = os.waitstatus_to_exitcode(status)
         if child.returncode:
             sys.exit(f"bench.py: {' '.join(words)} ended with {child.returncode}")
@@ -120,30 +127,45 @@ class Bench:
         self.inputs = Inputs(room, self.bench, self.meerkat)
         self.kept = {}
 
-    def least(self, words, text):
-        """The least time and memory of several tries."""
+    def best(self, words, text):
+        """The least times and memory of several tries."""
         key = *words, text
         if key not in self.kept:
             tries = [Measured(words, text, self.out) for _ in range(self.tries)]
-            self.kept[key] = min(it.seconds for it in tries), min(it.megabytes for it in tries)
+            self.kept[key] = SimpleNamespace(**{it: min(getattr(one, it) for one in tries) for it in ("seconds", "elapsed", "megabytes")})
         return self.kept[key]
 
     def whole(self, words, text):
         """The seconds of a call of `meerkat`."""
-        return self.least([self.meerkat, *words.split()], text)[0]
+        return self.best([self.meerkat, *words.split()], text).seconds
 
     def peak(self, words, text):
         """The megabytes of a call of `meerkat`."""
-        return self.least([self.meerkat, *words.split()], text)[1]
+        return self.best([self.meerkat, *words.split()], text).megabytes
+
+    def word(self, word, text, times):
+        return self.best([self.bench, word, str(times)], text)
 
     def once(self, word, text, many=MANY):
         """The seconds of doing once what the word says."""
-        (first, _), (all_, _) = (self.least([self.bench, word, str(times)], text) for times in (1, many))
-        return (all_ - first) / (many - 1)
+        took = (self.word(word, text, many).seconds - self.word(word, text, 1).seconds) / (many - 1)
+        if took < SHORT and word not in ROUND_WORDS and many <= MANY:
+            return self.once(word, text, int(FILLED / max(took, FILLED / 10_000)))
+        return took
+
+    def end(self, word, text, many=MANY):
+        """The seconds from start to end of doing once what the word says."""
+        return (self.word(word, text, many).elapsed - self.word(word, text, 1).elapsed) / (many - 1)
+
+    def printed(self, word, text):
+        """What doing it once came to."""
+        Measured([self.bench, word, "1"], text, self.out)
+        with open(self.out, encoding="ascii") as file:
+            return int(file.read())
 
     def memory(self, word, text):
         """The megabytes that doing it adds to doing nothing."""
-        (_, nothing), (_, once) = (self.least([self.bench, word, str(times)], text) for times in (0, 1))
+        nothing, once = (self.word(word, text, times).megabytes for times in (0, 1))
         return max(once - nothing, 0.0)
 
 
@@ -199,13 +221,16 @@ def bench_run(b):
 
 
 def bench_work(b):
-    counts = (1, 2, 4, 8)
-    work, drive = ({count: b.once(word, b.inputs.load(columns=count)) for count in counts} for word in ("work", "drive"))
-    for count in counts:
-        by_time(f"workers with locks, {count}, beside as many columns in one thread over plain cells", work[count], drive[count], 1.25)
-    for count in counts[1:]:
-        each = work[count] / count
-        row(f"one worker alone, beside each of {count}", told(work[1]), told(each), work[1] / each, least=3.5 if count == 4 else None)
+    loads = {count: b.inputs.load(columns=count) for count in (1, 2, 4, 8)}
+    for count, load in loads.items():
+        steps, beside = (b.printed(word, load) for word in ROUND_WORDS)
+        if steps != beside:
+            sys.exit(f"bench.py: {count} workers do {steps} steps, and as many columns in one thread {beside}")
+        work, drive = (b.once(word, load) for word in ROUND_WORDS)
+        by_time(f"a round of {steps} steps, {count} workers with locks, beside as many columns in one thread over plain cells", work, drive, 1.25)
+    for count in (2, 4, 8):
+        alone, several = (b.end("work", loads[it]) for it in (1, count))
+        row(f"the same from start to end, 1 worker, beside {count}", told(alone), told(several), alone / several, least=3.5 if count == 4 else None)
 
 
 def bench_trace(b):
@@ -267,7 +292,7 @@ def main():
     asked = asks.parse_args()
     with tempfile.TemporaryDirectory() as room:
         b = Bench(room, asked.tries)
-        print(f"{os.cpu_count()} processors, load {os.getloadavg()[0]:.1f}, least of {asked.tries} tries")
+        print(f"{os.cpu_count()} processors, load {os.getloadavg()[0]:.1f}, best of {asked.tries} tries")
         for name, kind in KINDS.items():
             if asked.only in (None, name):
                 table(name)

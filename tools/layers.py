@@ -12,7 +12,7 @@ import re
 import sys
 
 TOP = os.path.dirname(os.path.dirname(os.path.abspath(__file__)))
-DEFINITIONS = {"mk_lists", "mk_spelling", "mk_txn", "mk_quorum", "mk_words", "mk_model", "mk_history", "mk_verdict", "mk_feed_words"}
+DEFINITIONS = {"mk_lists", "mk_spelling", "mk_txn", "mk_quorum", "mk_words", "mk_model", "mk_history", "mk_verdict", "mk_feed_words", "mk_trace_text"}
 # These laws speak of scripts and drivers, whose definitions stand with their code, and of types of code.
 OF_CODE = {"mk_driver_laws", "mk_lock_laws", "mk_quiet_laws", "mk_thread_laws"}
 START, END = "<!-- layers: made by tools/write_docs -->", "<!-- end of layers -->"

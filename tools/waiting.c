@@ -1,5 +1,5 @@
-// How a thread may wait for its turn at a ticket lock, measured: by spinning alone, by spinning and then yielding the processor
-// (what a seat of a key lock does), or by spinning and then sleeping until the turn before ends.
+// How a thread may wait for its turn at a ticket lock, measured: by spinning alone, by spinning and then yielding the processor,
+// or by spinning and then sleeping until a turn ends (what a seat of a key lock does once it has yielded a few times).
 //
 // Each of THREADS threads takes TURNS turns at KEYS locks, in an order of its own, and works ROUNDS rounds of a small loop
 // inside of the turn and as many outside. Prints for each WAY, which is spin, yield or sleep, the seconds from start to end and

@@ -40,12 +40,13 @@ fn ask(past: &Past) -> usize {
     found
 }
 
-/// The index of the run's past is built.
-fn index(alloc: Global, run: &Run) -> Result<usize, NoMemory>
-    requires { IsLegal run.now }
+/// The index of the run's past is built from its outcomes.
+fn index(alloc: Global, run: &Run, lines: &[AttemptLine]) -> Result<usize, NoMemory>
+    requires legal { IsLegal run.now }
+    requires lines { lines.now ≡ outcomes_of run.now }
 {
-    let _past = Past::new(alloc, run)?;
-    Ok(run.rounds().len())
+    let _past = Past::of_lines(alloc, run, lines)?;
+    Ok(lines.len())
 }
 
 /// What is told of a run.
@@ -62,7 +63,7 @@ fn tell(alloc: Global, run: &Run) -> Result<Told, NoMemory>
 {
     let lines = outcomes(alloc, run)?;
     let text = report_text(alloc, run, lines.as_slice())?;
-    let past = Past::new(alloc, run)?;
+    let past = Past::of_lines(alloc, run, lines.as_slice())?;
     Ok(Told { lines, text, past })
 }
 
@@ -74,7 +75,7 @@ fn once(alloc: Global, word: LegalWord, run: &Run, told: &Told) -> Result<usize,
         LegalWord::Outcomes => outcomes(alloc, run)?.len(),
         LegalWord::Report => report_text(alloc, run, told.lines.as_slice())?.len(),
         LegalWord::Copy => copy(alloc, told.text.as_slice(), told.lines.as_slice())?,
-        LegalWord::Index => index(alloc, run)?,
+        LegalWord::Index => index(alloc, run, told.lines.as_slice())?,
         LegalWord::Ask => ask(&told.past),
     };
     Ok(count)

@@ -5,6 +5,7 @@
 mod columns;
 mod lane;
 mod legal;
+mod ready;
 mod runs;
 mod scripts;
 mod texts;

@@ -16,9 +16,9 @@ pub enum TextWord {
 /// What is done to a script.
 #[derive(Clone, Copy)]
 pub enum ScriptWord {
-    /// It is run, with a thread for each column.
+    /// Its first round is done, with a thread for each column.
     Work,
-    /// The columns of its first round are driven over plain cells, one after another.
+    /// The same in one thread over plain cells, one column after another.
     Drive,
 }
 

@@ -22,7 +22,8 @@ pub enum Taken {
 }
 
 /// The one copy up to a watermark. Contracts see the distinct commits and the marks that it received, its columns and
-/// its rule. No call goes through what was received.
+/// its rule. No call goes through all the commits that were received: a commit is found by its id and by its stamp, and
+/// only the marks of its column that are not yet met are looked at.
 #[derive(Drop)]
 pub struct Follower {
     columns: u32,
@@ -142,6 +143,7 @@ impl Follower {
         Ok(())
     }
 
+    /// How many columns it follows, 1 to 8.
     pub fn columns(&self) -> u32
         ensures { result ≡ self.now.columns }
     {

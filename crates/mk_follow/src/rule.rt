@@ -50,6 +50,7 @@ impl Subscription {
         Subscription { rule, picked }
     }
 
+    /// Whether the key, a number below 256, is shown.
     pub fn picks(&self, key: u32) -> bool
         requires { key < 256 }
         ensures { result ≡ picks self.now key }
@@ -57,6 +58,7 @@ impl Subscription {
         self.picked[key as usize]
     }
 
+    /// The rule that the test goes by.
     pub fn rule(&self) -> PickRule
         ensures { result ≡ self.now }
     {

@@ -86,7 +86,7 @@ module _ (key : Origin) where
       let all = total-set seats_of s.views id me.0 w at in
       let was = r.out in
       let were = r.all_held in
-      let two = r.wide in
+      let three = r.wide in
       let word : get_or s.words 0 0 ≡ r.next % 18446744073709551616 = r.next_word in
       let new : ℕ = (get_or s.words 0 0 + 1) % 18446744073709551616 in (
         w,
@@ -98,7 +98,7 @@ module _ (key : Origin) where
           journal = r.journal;
           owner = r.owner;
           holder = λ t. cond (eqb t r.next) id (r.holder t);
-          wide = length-set s.words 0 new ∙ two;
+          wide = length-set s.words 0 new ∙ three;
           next_word = get_or-set_same s.words 0 new 0 (omega arith) ∙ omega arith;
           served_word = get_or-set_other s.words 0 1 new 0 (λ e. omega arith) ∙ r.served_word;
           few = r.few;
@@ -149,7 +149,7 @@ module _ (key : Origin) where
       let mine : Fits key r.next r.served r.journal r.owner r.holder s.homes id me.0 = r.each id me.0 at in
       let know : (r.served ≤ ticket) × (ticket < r.next) × (r.holder ticket ≡ id) = subst (Knows key r.next r.served r.journal r.holder s.homes id) is mine.knows in
       let one_out : tickets_of me.0 ≡ 1 = ap tickets is in
-      let two = r.wide in
+      let three = r.wide in
       let few = few_out key s r in
       let was = r.out in
       let were = r.all_held in
@@ -171,7 +171,7 @@ module _ (key : Origin) where
           journal = r.journal;
           owner = r.owner;
           holder = r.holder;
-          wide = length-set s.words 1 found ∙ two;
+          wide = length-set s.words 1 found ∙ three;
           next_word = get_or-set_other s.words 1 0 found 0 (λ e. omega arith) ∙ r.next_word;
           served_word = get_or-set_same s.words 1 found 0 (omega arith) ∙ word;
           few = r.few;
@@ -204,7 +204,7 @@ module _ (key : Origin) where
           journal = r.journal;
           owner = r.owner;
           holder = r.holder;
-          wide = length-set s.words 1 found ∙ two;
+          wide = length-set s.words 1 found ∙ three;
           next_word = get_or-set_other s.words 1 0 found 0 (λ e. omega arith) ∙ r.next_word;
           served_word = get_or-set_same s.words 1 found 0 (omega arith) ∙ word;
           few = r.few;
@@ -239,7 +239,7 @@ module _ (key : Origin) where
       let all = total-set seats_of s.views id v w at in
       let was = r.out in
       let were = r.all_held in
-      let two = r.wide in
+      let three = r.wide in
       let word : get_or s.words 1 0 ≡ r.served % 18446744073709551616 = r.served_word in
       let new : ℕ = (get_or s.words 1 0 + 1) % 18446744073709551616 in
       let journal : List JournalEntry = r.journal ++ more in
@@ -256,7 +256,7 @@ module _ (key : Origin) where
           journal = journal;
           owner = r.owner;
           holder = r.holder;
-          wide = length-set s.words 1 new ∙ two;
+          wide = length-set s.words 1 new ∙ three;
           next_word = get_or-set_other s.words 1 0 new 0 (λ e. omega arith) ∙ r.next_word;
           served_word = get_or-set_same s.words 1 new 0 (omega arith) ∙ omega arith;
           few = r.few;
@@ -283,6 +283,32 @@ module _ (key : Origin) where
           placed = inl (set-home s.homes none (some y) know.4 ∙ ap (λ (k : JournalState). some (some k)) y_is);
         },
         ap (λ (l : List JournalEntry). (view (held h.number (h.entries ++ l) ∷ []) Idle, [])) (sym more_is),
+      )
+
+  -- the word that counts sleepers is of no matter to the rule
+  pub counts : (slots id : ℕ) (me : M) (f : ℕ → ℕ) → Allows (IsKept key) slots id me 2 f (λ found n. n ≡ me)
+  counts slots id me f s r _ at _ =
+      let new : ℕ = f (get_or s.words 2 0) in (
+        me.0,
+        keeps,
+        tt,
+        subst (λ (z : List View). IsKept key record { words = set s.words 2 new; homes = s.homes; views = z }) (sym (set_again s.views id me.0 at)) record {
+          next = r.next;
+          served = r.served;
+          journal = r.journal;
+          owner = r.owner;
+          holder = r.holder;
+          wide = length-set s.words 2 new ∙ r.wide;
+          next_word = get_or-set_other s.words 2 0 new 0 (λ e. omega arith) ∙ r.next_word;
+          served_word = get_or-set_other s.words 2 1 new 0 (λ e. omega arith) ∙ r.served_word;
+          few = r.few;
+          out = r.out;
+          all_held = r.all_held;
+          each = r.each;
+          no_stranger = r.no_stranger;
+          placed = r.placed;
+        },
+        refl,
       )
 
   deal_owns : (journal : List JournalEntry) (owner : ℕ → ℕ) (number new id from more : ℕ) → number < from → Each (Owns key journal owner id) (fresh from more)
@@ -407,7 +433,7 @@ module _ (key : Origin) where
   open_owns from (suc more) inside = ((omega arith, refl, refl), open_owns (suc from) more (omega arith))
 
   -- the table at the start
-  pub opens : (x : JournalState) → x ≡ kept key [] → key.seats < 4294967296 → IsKept key (opening (0 ∷ 0 ∷ []) (x ∷ []) (begins key))
+  pub opens : (x : JournalState) → x ≡ kept key [] → key.seats < 4294967296 → IsKept key (opening (0 ∷ 0 ∷ 0 ∷ []) (x ∷ []) (begins key))
   opens x is few = let long = length-fresh 0 key.seats in record {
     next = 0;
     served = 0;

@@ -11,7 +11,7 @@ use Rattle.mk_lock.specs.declared.view.Stage.TheVariants.{Waiting, InTurn}
 use Rattle.mk_lock.specs.declared.view.View.{View}
 use Rattle.mk_lock.specs.Entries.{JournalState, entry, IsBy}
 use Rattle.mk_lock.specs.Turns.{view, held, taken, AwaitedAt, Waits, HasTicket, HasTurn, MayEnd, ended}
-use Rattle.mk_lock.specs.Seats.{resting, first_entries}
+use Rattle.mk_lock.specs.Seats.{resting}
 
 -- the ticket that was found is the seat's
 pub turn_comes : (ticket found : ℕ) (m n : Me JournalState View) → HasTicket ticket m → found ≡ ticket → AwaitedAt m.0.stage m found n → HasTurn m n

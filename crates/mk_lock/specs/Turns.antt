@@ -1,5 +1,5 @@
 -- The rule of a key's lock, and what each step tells.
--- Word 0 counts the tickets that were drawn, and word 1 the turns that have ended, both modulo 2^64. The one slot has the journal.
+-- Word 0 counts the tickets that were drawn, and word 1 the turns that have ended, both modulo 2^64. Word 2 counts sleepers, and may be any number here. The one slot has the journal.
 use Rattle.std.specs.Prelude.{◌≡◌, ◌≢◌, ℕ, zero, suc, ◌+◌, ◌%◌, ◌^◌, ◌<◌, ◌≤◌, ◌⊎◌, List, [], ◌∷◌, ◌++◌, length, slice_index, drop}
 use mathlib.Core.Option.{Option, none, some}
 use lib.ListN.{get_elem?}
@@ -72,7 +72,7 @@ pub record IsKept (key : Origin) (s : State JournalState View) : Type 0 where
   pub journal : List JournalEntry
   pub owner : ℕ → ℕ
   pub holder : ℕ → ℕ
-  pub wide : length s.words ≡ 2
+  pub wide : length s.words ≡ 3
   pub next_word : slice_index s.words 0 ≡ next % 2 ^ 64
   pub served_word : slice_index s.words 1 ≡ served % 2 ^ 64
   pub few : key.seats < 2 ^ 32
@@ -119,6 +119,10 @@ ended m = (view (longer m.0.held (added m.0.stage m.1)) Idle, [])
 
 abbrev pub Ended : Step JournalState → Sat → ℕ → Sat → Type 0
 Ended st m found n = n ≡ ended m
+
+-- the seat is as it was
+abbrev pub Counted : Step JournalState → Sat → ℕ → Sat → Type 0
+Counted st m found n = n ≡ m
 
 -- a seat with one number at least, and no ticket
 abbrev pub Rests : Sat → Type 0

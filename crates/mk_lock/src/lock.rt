@@ -7,7 +7,7 @@ ghost use Rattle.mk_lock.specs.Seats.{seat_view, held_of};
 
 use crate::gate::Gate;
 use crate::journal::Journal;
-use crate::plays::{Await, Deal, Draw, End, Gather, Turns};
+use crate::plays::{Await, Count, Deal, Draw, End, Gather, Turns};
 use crate::seat::{Seat, Token};
 use crate::view::{Origin, View};
 use atomic_table::{Refused, Table};
@@ -25,6 +25,9 @@ const NEXT: usize = 0;
 
 // Counts the turns that have ended.
 const SERVED: usize = 1;
+
+// Counts the seats that sleep, or are about to or did just now.
+const SLEEPERS: usize = 2;
 
 type Turning = Table<Journal, View, Origin, Turns, Global>;
 
@@ -56,7 +59,7 @@ impl Model for KeyLock {
 
     ghost view = { λ l. record { name = l.table.shared.table_id; seats = l.seats; opening = l.table.shared.key.opening.value.state; replica = l.replica; key = l.key } };
 
-    ghost invariant = { λ l. (l.table.shared.table_id.words ≡ 2) × (l.table.shared.table_id.slots ≡ 1) × (l.table.shared.key.seats ≡ l.seats) × (0 < l.seats) };
+    ghost invariant = { λ l. (l.table.shared.table_id.words ≡ 3) × (l.table.shared.table_id.slots ≡ 1) × (l.table.shared.key.seats ≡ l.seats) × (0 < l.seats) };
 }
 
 // Gives each number a seat.
@@ -118,7 +121,7 @@ impl KeyLock {
         let mut slots = Vec::new(alloc);
         slots.reserve(1)?;
         slots.push_reserved(Journal::new(alloc, cell));
-        let (table, token) = match Table::new(alloc, &[0, 0], slots, &origin) {
+        let (table, token) = match Table::new(alloc, &[0, 0, 0], slots, &origin) {
             Ok(made) => made,
             Err(Refused { slots: _ }) => return Err(NoMemory),
         };
@@ -141,7 +144,25 @@ impl KeyLock {
         self.table.shared.fetch_add::<Draw>(token, NEXT, 1)
     }
 
-    // Waits until the ticket is served, and takes the journal out.
+    // Sleeps unless the ticket is served, until a turn ends. It may also return for no reason.
+    //
+    // No wake is lost. The seat is counted before it looks, and who ends a turn looks at the count after it: where that one
+    // finds no sleeper, this one finds the turn ended. Where the turn ends between the look and the sleep, the kernel finds
+    // another number than was seen and returns: its low 32 bits differ too, since fewer than 2^32 turns come before this one's.
+    fn sleep<R: Wait>(&self, rt: &R, token: &mut Token, ticket: u64)
+        requires { token.old.table_id ≡ self.now.name }
+        ensures { (token.new.table_id ≡ token.old.table_id) × (token.new.id ≡ token.old.id) × (token.new.me ≡ token.old.me) }
+    {
+        self.table.shared.fetch_add::<Count>(token, SLEEPERS, 1);
+        let served = self.table.shared.peek(SERVED);
+        if served != ticket {
+            let seen = (served & 0xffff_ffff) as u32;
+            self.table.shared.park(rt, SERVED, seen);
+        }
+        self.table.shared.fetch_sub::<Count>(token, SLEEPERS, 1);
+    }
+
+    // Waits until the ticket is served, and takes the journal out. It spins first, then yields the processor, then sleeps.
     fn take_turn<R: Wait>(&self, rt: &R, token: &mut Token, ticket: u64)
         requires token { (token.old.table_id ≡ self.now.name) × HasTicket ticket token.old.me }
         ensures same { (token.new.table_id ≡ token.old.table_id) × (token.new.id ≡ token.old.id) }
@@ -152,18 +173,25 @@ impl KeyLock {
             if self.table.shared.load::<Await>(token, SERVED) == ticket {
                 return;
             }
-            backoff.snooze();
+            if backoff.is_completed() {
+                self.sleep(rt, token, ticket);
+            } else {
+                backoff.snooze();
+            }
         }
         unreachable!()
     }
 
-    // Puts the journal back, and serves the next ticket.
+    // Puts the journal back, and serves the next ticket. All sleepers are woken, since no word says which of them has it.
     fn end_turn(&self, token: &mut Token)
         requires token { (token.old.table_id ≡ self.now.name) × MayEnd token.old.me }
         ensures same { (token.new.table_id ≡ token.old.table_id) × (token.new.id ≡ token.old.id) }
         ensures rests { token.new.me ≡ ended token.old.me }
     {
         self.table.shared.fetch_add::<End>(token, SERVED, 1);
+        if self.table.shared.peek(SLEEPERS) > 0 {
+            self.table.shared.wake_all(SERVED);
+        }
     }
 
     /// Waits for its turn, does the act on the cell, and writes it down under the seat's number.
@@ -190,7 +218,7 @@ impl KeyLock {
         done
     }
 
-    /// Takes the lock apart, and gives the cell and the whole journal.
+    /// Takes the lock apart, and gives the cell and the whole journal. It has all seats, so none waits or sleeps.
     pub fn close(self, seats: Vec<Seat>) -> (Cell, Vec<JournalEntry>)
         requires { AreSeatsOf self.name self.seats seats.items }
         ensures { IsJournalOf self.opening result.0.state seats.items result.1.items }

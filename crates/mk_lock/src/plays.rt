@@ -40,6 +40,15 @@ impl Play<Journal, View> for End {
     ghost then = { Ended };
 }
 
+// Counts one sleeper more or less, of which no seat knows.
+pub(crate) struct Count;
+
+impl Play<Journal, View> for Count {
+    ghost use Rattle.mk_lock.specs.Turns.{Counted};
+
+    ghost then = { Counted };
+}
+
 // Gives away the first number.
 pub(crate) struct Deal;
 

@@ -90,8 +90,8 @@ fn two_threads_are_in_turns_of_two_keys_at_once(rt: HostRuntime) -> Result<(), F
     Ok(())
 }
 
-// How long each turn lasts, in looks.
-const LOOKS: u32 = 300;
+// How long each turn lasts, in looks: so long that the other seat sleeps.
+const LOOKS: u32 = 10_000;
 
 // Counts who is inside, and notes where somebody else is, or where the key is not key 5 of replica 2.
 #[derive(Drop)]

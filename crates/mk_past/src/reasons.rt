@@ -135,7 +135,7 @@ pub fn why(alloc: Global, run: &Run, id: TxnId) -> Result<Option<Reasoned>, NoMe
 {
     attempts_have_lines();
     lines_are_reasoned();
-    let _head = run.head();
+    run.has_shape();
     let lines = outcomes(alloc, run)?;
     match line_of_id(lines.as_slice(), id) {
         Some(line) => Ok(by_state(run, lines.as_slice(), line)),

@@ -1,11 +1,11 @@
 //! The lines of a report.
-ghost use Rattle.std.specs.Prelude.{◌≡◌, ◌++◌, OnOk};
-ghost use Rattle.std.specs.List.{join_with_byte};
+ghost use Rattle.std.specs.Prelude.{◌≡◌, ◌∷◌, ◌++◌, [], OnOk};
+ghost use Rattle.std.specs.List.{flat_map, join_with_byte};
 ghost use Rattle.std.specs.String.{string_bytes};
 ghost use Rattle.mk_script.specs.Grammar.{global_words};
 ghost use Rattle.mk_report.specs.ReportTexts as spec;
 
-use crate::parts::{put_answer, put_id, put_reads, put_stamp, put_state, put_writes};
+use crate::parts::{put_answer, put_id, put_number, put_reads, put_stamp, put_state, put_writes};
 use mk_names::Names;
 use mk_run::AttemptLine;
 use mk_txn::{Stamp, Value};
@@ -23,12 +23,18 @@ pub fn put_attempt(
 {
     put_id(out, clients, attempt.id)?;
     put_stamp_part(out, attempt.stamp)?;
-    write!(out, " ")?;
+    out.push_str(" ")?;
     put_state(out, keys, attempt.state)?;
+    put_accesses(out, keys, attempt)
+}
+
+// What the attempt read and what it writes, to the line's end.
+fn put_accesses(out: &mut String, keys: &Names, attempt: &AttemptLine) -> Result<(), AllocError>
+    ensures { OnOk result (string_bytes out.new ≡ string_bytes out.old ++ (flat_map (spec.read_text keys.now.names) attempt.now.reads ++ (flat_map (spec.write_text keys.now.names) attempt.now.writes ++ 10 ∷ []))) }
+{
     put_reads(out, keys, attempt.reads.as_slice())?;
     put_writes(out, keys, attempt.writes.as_slice())?;
-    writeln!(out)?;
-    Ok(())
+    out.push_str("\n")
 }
 
 fn put_stamp_part(out: &mut String, stamp: Option<Stamp>) -> Result<(), AllocError>
@@ -37,7 +43,7 @@ fn put_stamp_part(out: &mut String, stamp: Option<Stamp>) -> Result<(), AllocErr
     match stamp {
         None => Ok(()),
         Some(stamp) => {
-            write!(out, " @")?;
+            out.push_str(" @")?;
             put_stamp(out, stamp)
         }
     }
@@ -104,10 +110,13 @@ pub fn put_store(
     match value {
         Value::Absent => Ok(()),
         Value::Number(n) => {
-            write!(out, "store {name} ")?;
+            out.push_str("store ")?;
+            out.push_str(name)?;
+            out.push_str(" ")?;
             put_stamp(out, version)?;
-            writeln!(out, " {n}")?;
-            Ok(())
+            out.push_str(" ")?;
+            put_number(out, n)?;
+            out.push_str("\n")
         }
     }
 }

@@ -1,10 +1,12 @@
 //! The parts of a report's lines.
 ghost use Rattle.std.specs.Prelude.{◌≡◌, ◌++◌, ◌-◌, OnOk};
+ghost use Rattle.std.specs.Fmt.{decimal};
 ghost use Rattle.std.specs.List.{flat_map};
 ghost use Rattle.std.specs.String.{string_bytes};
 ghost use Rattle.mk_script.specs.Printed.{key_name};
 ghost use Rattle.mk_report.specs.ReportTexts as spec;
 
+use itoa::Buffer;
 use mk_history::{Left, Path, State};
 use mk_names::Names;
 use mk_txn::{Cause, Conflict, Outcome, ReadItem, Reason, Stamp, TxnId, Value, WriteItem};
@@ -21,45 +23,57 @@ pub fn name_of(names: &Names, number: u32) -> &str
     }
 }
 
+/// Writes the digits of a number.
+pub(crate) fn put_number(out: &mut String, n: u64) -> Result<(), AllocError>
+    ensures { OnOk result (string_bytes out.new ≡ string_bytes out.old ++ decimal n) }
+{
+    let mut digits = Buffer::new();
+    out.push_str(digits.format(n))
+}
+
+// Writes a text and the digits of a number.
+fn put_counted(out: &mut String, text: &str, n: u32) -> Result<(), AllocError>
+    ensures { OnOk result (string_bytes out.new ≡ string_bytes out.old ++ (text.now ++ decimal n)) }
+{
+    out.push_str(text)?;
+    put_number(out, u64::from(n))
+}
+
 pub fn put_id(out: &mut String, clients: &Names, id: TxnId) -> Result<(), AllocError>
     ensures { OnOk result (string_bytes out.new ≡ string_bytes out.old ++ spec.attempt_name clients.now.names id) }
 {
-    let name = name_of(clients, id.client.saturating_sub(1));
-    let seq = id.seq;
-    write!(out, "{name}.{seq}")?;
-    Ok(())
+    out.push_str(name_of(clients, id.client.saturating_sub(1)))?;
+    out.push_str(".")?;
+    put_number(out, u64::from(id.seq))
 }
 
 pub fn put_stamp(out: &mut String, stamp: Stamp) -> Result<(), AllocError>
     ensures { OnOk result (string_bytes out.new ≡ string_bytes out.old ++ spec.stamp_text stamp) }
 {
-    let time = stamp.time;
-    let client = stamp.client;
-    write!(out, "{time}.{client}")?;
-    Ok(())
+    put_number(out, stamp.time)?;
+    out.push_str(".")?;
+    put_number(out, u64::from(stamp.client))
 }
 
 pub fn put_value(out: &mut String, value: Value) -> Result<(), AllocError>
     ensures { OnOk result (string_bytes out.new ≡ string_bytes out.old ++ spec.value_text value) }
 {
     match value {
-        Value::Number(n) => write!(out, "{n}")?,
-        Value::Absent => write!(out, "none")?,
+        Value::Number(n) => put_number(out, n),
+        Value::Absent => out.push_str("none"),
     }
-    Ok(())
 }
 
 pub fn put_path(out: &mut String, path: Path) -> Result<(), AllocError>
     ensures { OnOk result (string_bytes out.new ≡ string_bytes out.old ++ spec.path_text path) }
 {
     match path {
-        Path::Fast => write!(out, "fast")?,
-        Path::Slow => write!(out, "slow")?,
-        Path::Takeover(view) => write!(out, "takeover {view}")?,
-        Path::Epoch(epoch) => write!(out, "epoch {epoch}")?,
-        Path::Moved(epoch) => write!(out, "moved {epoch}")?,
+        Path::Fast => out.push_str("fast"),
+        Path::Slow => out.push_str("slow"),
+        Path::Takeover(view) => put_counted(out, "takeover ", view),
+        Path::Epoch(epoch) => put_counted(out, "epoch ", epoch),
+        Path::Moved(epoch) => put_counted(out, "moved ", epoch),
     }
-    Ok(())
 }
 
 fn reason_word(reason: Reason) -> &'static str
@@ -77,9 +91,11 @@ fn reason_word(reason: Reason) -> &'static str
 pub fn put_conflict(out: &mut String, keys: &Names, conflict: Conflict) -> Result<(), AllocError>
     ensures { OnOk result (string_bytes out.new ≡ string_bytes out.old ++ spec.conflict_text keys.now.names conflict) }
 {
-    let key = name_of(keys, conflict.key);
-    let reason = reason_word(conflict.reason);
-    write!(out, "conflict {key} {reason} ")?;
+    out.push_str("conflict ")?;
+    out.push_str(name_of(keys, conflict.key))?;
+    out.push_str(" ")?;
+    out.push_str(reason_word(conflict.reason))?;
+    out.push_str(" ")?;
     put_stamp(out, conflict.stamp)
 }
 
@@ -87,11 +103,10 @@ pub fn put_cause(out: &mut String, keys: &Names, cause: Cause) -> Result<(), All
     ensures { OnOk result (string_bytes out.new ≡ string_bytes out.old ++ spec.cause_text keys.now.names cause) }
 {
     match cause {
-        Cause::Conflict(conflict) => put_conflict(out, keys, conflict)?,
-        Cause::Takeover(view) => write!(out, "takeover {view}")?,
-        Cause::Epoch(epoch) => write!(out, "epoch {epoch}")?,
+        Cause::Conflict(conflict) => put_conflict(out, keys, conflict),
+        Cause::Takeover(view) => put_counted(out, "takeover ", view),
+        Cause::Epoch(epoch) => put_counted(out, "epoch ", epoch),
     }
-    Ok(())
 }
 
 fn put_outcome(
@@ -104,13 +119,13 @@ fn put_outcome(
 {
     match outcome {
         Outcome::Commit => {
-            write!(out, "commit ")?;
+            out.push_str("commit ")?;
             put_path(out, path)
         }
         Outcome::Abort(cause) => {
-            write!(out, "abort ")?;
+            out.push_str("abort ")?;
             put_path(out, path)?;
-            write!(out, " because ")?;
+            out.push_str(" because ")?;
             put_cause(out, keys, cause)
         }
     }
@@ -120,13 +135,15 @@ pub fn put_left(out: &mut String, left: Left) -> Result<(), AllocError>
     ensures { OnOk result (string_bytes out.new ≡ string_bytes out.old ++ spec.left_text left) }
 {
     match left {
-        Left::Unread => write!(out, "unread")?,
-        Left::Short(n) => write!(out, "short {n}")?,
-        Left::Unaccepted(n) => write!(out, "unaccepted {n}")?,
-        Left::Stopped => write!(out, "stopped")?,
-        Left::Unclear { ok, not_ok } => write!(out, "unclear {ok} {not_ok}")?,
+        Left::Unread => out.push_str("unread"),
+        Left::Short(n) => put_counted(out, "short ", n),
+        Left::Unaccepted(n) => put_counted(out, "unaccepted ", n),
+        Left::Stopped => out.push_str("stopped"),
+        Left::Unclear { ok, not_ok } => {
+            put_counted(out, "unclear ", ok)?;
+            put_counted(out, " ", not_ok)
+        }
     }
-    Ok(())
 }
 
 pub fn put_state(out: &mut String, keys: &Names, state: State) -> Result<(), AllocError>
@@ -135,7 +152,7 @@ pub fn put_state(out: &mut String, keys: &Names, state: State) -> Result<(), All
     match state {
         State::Learned { outcome, path } => put_outcome(out, keys, outcome, path),
         State::Left(left) => {
-            write!(out, "open ")?;
+            out.push_str("open ")?;
             put_left(out, left)
         }
     }
@@ -144,10 +161,11 @@ pub fn put_state(out: &mut String, keys: &Names, state: State) -> Result<(), All
 fn put_read(out: &mut String, keys: &Names, item: ReadItem) -> Result<(), AllocError>
     ensures { OnOk result (string_bytes out.new ≡ string_bytes out.old ++ spec.read_text keys.now.names item) }
 {
-    let key = name_of(keys, item.key);
-    write!(out, " r:{key}@")?;
+    out.push_str(" r:")?;
+    out.push_str(name_of(keys, item.key))?;
+    out.push_str("@")?;
     put_stamp(out, item.version)?;
-    write!(out, "=")?;
+    out.push_str("=")?;
     put_value(out, item.value)
 }
 
@@ -163,8 +181,9 @@ pub fn put_reads(out: &mut String, keys: &Names, reads: &[ReadItem]) -> Result<(
 fn put_write(out: &mut String, keys: &Names, item: WriteItem) -> Result<(), AllocError>
     ensures { OnOk result (string_bytes out.new ≡ string_bytes out.old ++ spec.write_text keys.now.names item) }
 {
-    let key = name_of(keys, item.key);
-    write!(out, " w:{key}=")?;
+    out.push_str(" w:")?;
+    out.push_str(name_of(keys, item.key))?;
+    out.push_str("=")?;
     put_value(out, item.value)
 }
 

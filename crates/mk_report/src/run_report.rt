@@ -57,7 +57,8 @@ fn commits(alloc: Global, lines: &[AttemptLine]) -> Result<Vec<Txn>, NoMemory>
     Ok(txns)
 }
 
-fn copy_of(alloc: Global, lines: &[AttemptLine]) -> Result<OneCopy, NoMemory>
+/// What the commits of these lines leave on one copy.
+pub fn copy_of(alloc: Global, lines: &[AttemptLine]) -> Result<OneCopy, NoMemory>
     requires whole { Each IsTransaction (commits_in lines.now) }
     requires distinct { HaveDistinctStamps (commits_in lines.now) }
     ensures { IfOk result (λ copy. copy ≡ one_copy (commits_in lines.now)) }

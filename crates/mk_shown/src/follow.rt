@@ -120,11 +120,12 @@ fn put_picture(out: &mut String, alloc: Global, keys: &Names, past: &Past) -> Re
 }
 
 // What comes behind the report.
-fn followed(alloc: Global, run: &Run) -> Result<String, NoMemory>
-    requires { IsLegal run.now }
+fn followed(alloc: Global, run: &Run, lines: &[AttemptLine]) -> Result<String, NoMemory>
+    requires legal { IsLegal run.now }
+    requires lines { lines.now ≡ outcomes_of run.now }
     ensures { IfOk result (λ text. string_bytes text ≡ spec.shown_lines run.now ++ spec.followed_lines run.now.key_names (copy_at last_mark (commits_of run.now))) }
 {
-    let past = Past::new(alloc, run)?;
+    let past = Past::of_lines(alloc, run, lines)?;
     let head = run.head();
     let mut out = String::new(alloc);
     if head.columns > 0 {
@@ -142,7 +143,7 @@ pub fn follow_text(alloc: Global, run: &Run, lines: &[AttemptLine]) -> Result<Ve
     ensures { IfOk result (λ text. text.items ≡ spec.follow_text run.now) }
 {
     let mut text = report_text(alloc, run, lines)?;
-    let followed = followed(alloc, run)?;
+    let followed = followed(alloc, run, lines)?;
     text.extend_from_slice(followed.as_bytes())?;
     Ok(text)
 }

@@ -72,7 +72,7 @@ fn key_names(alloc: Global, keys: &Names) -> Result<Names, NoMemory>
 }
 
 /// The head of the script's runs.
-pub(crate) fn head_of(alloc: Global, script: &Script) -> Result<Head, NoMemory>
+pub fn head_of(alloc: Global, script: &Script) -> Result<Head, NoMemory>
     ensures run { IfOk result (λ head. history head [] ≡ run_of script.now []) }
     ensures limits { IfOk result HasLimits }
 {

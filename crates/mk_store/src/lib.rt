@@ -5,4 +5,5 @@ mod globals;
 mod head;
 mod run;
 
+pub use head::head_of;
 pub use run::run_script;

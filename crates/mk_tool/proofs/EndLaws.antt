@@ -7,7 +7,7 @@ use Rattle.mk_history.specs.Histories.{History}
 use Rattle.mk_history.specs.Shape.{HasShape}
 use Rattle.mk_verdict.specs.declared.Verdict.{Verdict}
 use Rattle.mk_verdict.specs.declared.Verdict.TheVariants.{Legal}
-use Rattle.mk_trace.specs.Traces.{trace_text}
+use Rattle.mk_trace_text.specs.Traces.{trace_text}
 use Rattle.mk_trace.specs.Answers.{run_text}
 use Rattle.mk_ending.specs.declared.why.Why.{Why}
 use Rattle.mk_ending.specs.declared.why.Why.TheVariants.{Usage, Refused, SourceFault, TooLong, SinkFault, NoMemory, NoAttempt}

@@ -14,7 +14,7 @@ use Rattle.mk_history.specs.Shape.{HasShape}
 use Rattle.mk_kept.specs.declared.head.Head.{Head}
 use Rattle.mk_kept.specs.Heads.{history}
 use Rattle.mk_run.specs.Judging.{JudgeView, StandsForRounds}
-use Rattle.mk_trace.specs.Grammar.{head_of, seen_head}
+use Rattle.mk_trace_text.specs.Grammar.{head_of, seen_head}
 use Rattle.mk_trace.specs.Pieces.{Reading, started, fed, finished}
 use Rattle.mk_trace.specs.Answers.{with_rounds, fed_behind, HeadIs, Takes, Finishes, run_of, run_text, answer_with}
 use Rattle.mk_history.specs.Histories.{History}

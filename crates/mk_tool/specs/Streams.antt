@@ -7,7 +7,7 @@ use Rattle.mk_kept.specs.declared.head.Head.{Head}
 use Rattle.mk_verdict.specs.declared.Verdict.{Verdict}
 use Rattle.mk_verdict.specs.Flaws.{verdict_of}
 use Rattle.mk_run.specs.Judging.{JudgeView, StandsForRounds}
-use Rattle.mk_trace.specs.Grammar.{head_of}
+use Rattle.mk_trace_text.specs.Grammar.{head_of}
 use Rattle.mk_trace.specs.Pieces.{Reading, started, fed}
 use Rattle.mk_trace.specs.Answers.{with_rounds, run_text}
 use Rattle.mk_tool.specs.VerdictTexts.{check_text}

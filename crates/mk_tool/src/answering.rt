@@ -192,7 +192,7 @@ fn reason_text(alloc: Global, run: &Run, client: &str, seq: u32) -> Result<Strin
     ensures err { IfErr result (IsUntold (ForReason client.now seq) run.now) }
 {
     attempts_have_lines();
-    let _head = run.head();
+    run.has_shape();
     let Some(id) = id_of(run, client, seq) else {
         return Err(Why::NoAttempt);
     };

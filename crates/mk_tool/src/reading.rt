@@ -80,7 +80,7 @@ fn answer_of(alloc: Global, bytes: &[u8], question: Question<'_>) -> Result<Judg
     ensures err { IfErr result (IsUnanswered (seen_question question.entry) bytes.now) }
 {
     let run = run_of(alloc, bytes)?;
-    let _head = run.head();
+    run.has_shape();
     answer(alloc, &run, question)
 }
 

@@ -8,7 +8,7 @@ ghost use Rattle.mk_history.specs.Histories.{History};
 ghost use Rattle.mk_history.specs.Legality.{IsLegal};
 ghost use Rattle.mk_history.specs.Safety.{IsSafe};
 ghost use Rattle.mk_history.specs.Shape.{HasShape};
-ghost use Rattle.mk_trace.specs.Traces.{trace_text};
+ghost use Rattle.mk_trace_text.specs.Traces.{trace_text};
 ghost use Rattle.mk_verdict.specs.declared.Verdict.{Verdict as Judged};
 ghost use Rattle.mk_verdict.specs.declared.Verdict.TheVariants.{Legal};
 ghost use Rattle.mk_verdict.specs.Flaws.{verdict_of};

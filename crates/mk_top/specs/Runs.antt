@@ -15,7 +15,7 @@ use Rattle.mk_driver.specs.Driven.{IsDriven}
 use Rattle.mk_run.specs.Attempts.{outcomes_of, is_open}
 use Rattle.mk_report.specs.RunReports.{report_of, summary_of, json_of}
 use Rattle.mk_shown.specs.FollowTexts.{follow_text}
-use Rattle.mk_trace.specs.Traces.{trace_text}
+use Rattle.mk_trace_text.specs.Traces.{trace_text}
 use Rattle.mk_top.specs.declared.form.Load.{Load}
 use Rattle.mk_top.specs.declared.form.Form.{Form}
 use Rattle.mk_top.specs.declared.form.Form.TheVariants.{Report, Trace, Json, Follow, Summary}

@@ -13,7 +13,6 @@ ghost use Rattle.mk_store.specs.Words.{WordsRead, FaultsAreCounted, word_faults}
 ghost use Rattle.mk_top.specs.declared.form.Form.{Form as FormOfWords};
 ghost use Rattle.mk_top.specs.Forms as forms;
 ghost use Rattle.mk_top.specs.Asked.{script_limit, SaysFault, IsUnmade, is_of_reading};
-ghost use Rattle.mk_history.specs.Shape.{HasShape};
 ghost use Rattle.mk_script.specs.Quiet.{IsQuiet};
 ghost use Rattle.mk_script.specs.Whole.{IsWhole};
 ghost use Rattle.mk_top.specs.Runs.{AllFast, IsRunOf, text_of, has_left};
@@ -41,7 +40,7 @@ fn are_safe(run: &Run)
     ensures { IsSafe run.now }
 {
     mk_safety::legal_runs_are_safe();
-    let _head = run.head();
+    run.has_shape();
 }
 
 /// A script keeps the limits of scripts. The function does nothing.
@@ -49,13 +48,6 @@ fn keeps_limits(script: &Script)
     ensures { IsWhole script.now }
 {
     let _version = script.version;
-}
-
-/// A run that is kept has the shape of a run. The function does nothing.
-fn has_shape(run: &Run)
-    ensures { HasShape run.now }
-{
-    let _head = run.head();
 }
 
 /// Every attempt of a run by a quiet script commits on the fast path. The function does nothing.
@@ -66,7 +58,7 @@ fn are_fast(script: &Script, run: &Run)
 {
     mk_quiet_laws::quiet_scripts_commit_fast();
     keeps_limits(script);
-    has_shape(run);
+    run.has_shape();
 }
 
 /// Runs the script. The run is safe, and fast where the script is quiet.

@@ -8,9 +8,9 @@ use Rattle.mk_history.specs.declared.RoundLog.{RoundLog}
 use Rattle.mk_history.specs.Histories.{History}
 use Rattle.mk_history.specs.Shape.{HasShape}
 use Rattle.mk_trace_lines.specs.TraceLines.{TraceLine, spelling, text_of}
-use Rattle.mk_trace.specs.Traces.{trace_lines, trace_text}
-use Rattle.mk_trace.specs.States.{State, nothing, after}
-use Rattle.mk_trace.specs.Grammar.{taken, line_result, ended, end_result}
+use Rattle.mk_trace_text.specs.Traces.{trace_lines, trace_text}
+use Rattle.mk_trace_text.specs.States.{State, nothing, after}
+use Rattle.mk_trace_text.specs.Grammar.{taken, line_result, ended, end_result}
 use Rattle.mk_trace.specs.Answers.{run_of, run_text}
 use Rattle.mk_trace.proofs.LinesAgain.{line_again, line_lacks}
 use Rattle.mk_trace.proofs.InTurn.{IsNext, EachNext, after_all}

@@ -12,13 +12,13 @@ use Rattle.mk_history.specs.Shape.{entry_fits, global_fits}
 use Rattle.mk_kept.specs.Heads.{history}
 use Rattle.mk_trace_lines.specs.TraceLines.{TraceLine}
 use Rattle.mk_trace_lines.specs.TraceLines.TraceLine.{Marks, Kept, Changes, Changed}
-use Rattle.mk_trace.specs.declared.section.Section.{Section}
-use Rattle.mk_trace.specs.declared.section.Section.TheVariants as sections
-use Rattle.mk_trace.specs.Traces.{entry_line, journal_lines, replica_lines, journals_lines, change_line, change_lines}
-use Rattle.mk_trace.specs.States.{State, journaled, after}
-use Rattle.mk_trace.specs.Grammar.{before_cell, in_journal, in_changes, at_end}
+use Rattle.mk_trace_text.specs.declared.section.Section.{Section}
+use Rattle.mk_trace_text.specs.declared.section.Section.TheVariants as sections
+use Rattle.mk_trace_text.specs.Traces.{entry_line, journal_lines, replica_lines, journals_lines, change_line, change_lines}
+use Rattle.mk_trace_text.specs.States.{State, journaled, after}
+use Rattle.mk_trace_text.specs.Grammar.{before_cell, in_journal, in_changes, at_end}
 use Rattle.mk_trace.proofs.FitLaws.{ltb-from}
-use Rattle.mk_trace.proofs.LinesAgain.{IsSound, IsCellBehind}
+use Rattle.mk_trace.proofs.Suited.{IsSound, IsCellBehind}
 use Rattle.mk_trace.proofs.InTurn.{IsNext, Leads, then, first, none_left}
 use Rattle.mk_trace.proofs.LogsInTurn.{extended_at}
 

@@ -24,8 +24,8 @@ use Rattle.mk_history.specs.Shape.{stamp_fits, value_fits, replica_fits}
 use Rattle.mk_trace_lines.specs.LineWords.{none_text}
 use Rattle.mk_trace_lines.specs.TraceLines.{client_name, key_name, attempt_text, stamp_text, value_text, write_text}
 use Rattle.mk_trace_lines.specs.ActShapes.{Parts, stamp_parts, stamp_of, value_of, is_none}
-use Rattle.mk_trace.specs.States.{State}
-use Rattle.mk_trace.specs.Grammar.{is_text_of, below, attempt_of, key_of, replica_of}
+use Rattle.mk_trace_text.specs.States.{State}
+use Rattle.mk_trace_text.specs.Grammar.{is_text_of, below, attempt_of, key_of, replica_of}
 use Rattle.mk_trace.proofs.FitLaws.{leb-from}
 
 -- ---- tests

@@ -31,8 +31,8 @@ use Rattle.mk_trace_lines.specs.ActShapes.ActShape.{GetShape, CheckReadShape, Ch
 use Rattle.mk_trace_lines.specs.Replies as reply_shapes
 use Rattle.mk_trace_lines.specs.Replies.{ReplyShape, reply_shape, reply_of, suits}
 use Rattle.mk_trace_lines.specs.Replies.ReplyShape.{OneWord, OneNumber, TwoNumbers}
-use Rattle.mk_trace.specs.States.{State}
-use Rattle.mk_trace.specs.Grammar.{is_text_of, below, client_number, attempt_of, key_of, write_word, writes_of}
+use Rattle.mk_trace_text.specs.States.{State}
+use Rattle.mk_trace_text.specs.Grammar.{is_text_of, below, client_number, attempt_of, key_of, write_word, writes_of}
 use Rattle.mk_trace.proofs.FitLaws.{Gives, need_law, bind_law, done_law, failed_law, weaker_law, self_law, found_law}
 use Rattle.mk_trace.proofs.FieldsAgain.{ltb-low, ranged_again}
 

@@ -4,8 +4,8 @@ use Rattle.mk_spelling.specs.Fields.{◌>>◌, need}
 use Rattle.mk_spelling.specs.declared.fault.TextFault.TheVariants as faults
 use Rattle.mk_spelling.specs.Lines.{Refusal, go_on}
 use Rattle.mk_history.specs.declared.RoundLog.{RoundLog}
-use Rattle.mk_trace.specs.States.{State}
-use Rattle.mk_trace.specs.Grammar.{ended}
+use Rattle.mk_trace_text.specs.States.{State}
+use Rattle.mk_trace_text.specs.Grammar.{ended}
 use Rattle.mk_trace.specs.Pieces.{Reading, started, fed, finished}
 use Rattle.mk_trace.specs.Answers.{with_rounds, run_of, run_text, answer_with}
 use Rattle.mk_trace.proofs.PieceLaws.{finished_text}

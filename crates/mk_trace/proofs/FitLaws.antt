@@ -17,8 +17,8 @@ use Rattle.mk_history.specs.Shape.{stamp_fits, value_fits, id_fits, key_fits, re
 use Rattle.mk_kept.specs.declared.head.Head.{Head}
 use Rattle.mk_kept.specs.Heads.{history}
 use Rattle.mk_trace_lines.specs.ActShapes.{Parts, stamp_of, value_of, is_none}
-use Rattle.mk_trace.specs.States.{State}
-use Rattle.mk_trace.specs.Grammar.{below, client_number, attempt_of, key_of, replica_of, write_word, writes_of}
+use Rattle.mk_trace_text.specs.States.{State}
+use Rattle.mk_trace_text.specs.Grammar.{below, client_number, attempt_of, key_of, replica_of, write_word, writes_of}
 
 -- ---- tests that follow one another
 

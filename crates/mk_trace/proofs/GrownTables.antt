@@ -14,7 +14,7 @@ use Rattle.mk_words.specs.declared.Step.{Step}
 use Rattle.mk_words.specs.declared.JournalEntry.{JournalEntry}
 use Rattle.mk_history.specs.declared.RoundLog.{RoundLog}
 use Rattle.mk_history.specs.Shape.{columns_of, begins_of}
-use Rattle.mk_trace.specs.States.{extended, journaled}
+use Rattle.mk_trace_text.specs.States.{extended, journaled}
 
 -- ---- lists
 

@@ -5,8 +5,8 @@ use Rattle.mk_spelling.specs.Lines.{Refusal}
 use Rattle.mk_history.specs.declared.RoundLog.{RoundLog}
 use Rattle.mk_trace_lines.specs.TraceLines.{TraceLine}
 use Rattle.mk_trace_lines.specs.TraceLines.TraceLine.{Opens, Sizes, Declares, Names, Begins, Heads, Logged, Marks, Kept, Changes, Changed, Ends}
-use Rattle.mk_trace.specs.States.{State, closed, after}
-use Rattle.mk_trace.specs.Grammar.{line_of, taken, line_result}
+use Rattle.mk_trace_text.specs.States.{State, closed, after}
+use Rattle.mk_trace_text.specs.Grammar.{line_of, taken, line_result}
 use Rattle.mk_trace.specs.Pieces.{Reading, started, ended_line, byte_behind, fed_byte, fed}
 use Rattle.mk_trace.proofs.PieceLaws.{fed-append}
 use Rattle.mk_trace.specs.Answers.{with_rounds}

@@ -8,15 +8,15 @@ use Rattle.mk_history.specs.declared.RoundLog.{RoundLog}
 use Rattle.mk_history.specs.Shape.{columns_of}
 use Rattle.mk_trace_lines.specs.TraceLines.{TraceLine, key_name, spelling}
 use Rattle.mk_trace_lines.specs.TraceLines.TraceLine.{Declares, Names}
-use Rattle.mk_trace.specs.declared.section.Section.{Section}
-use Rattle.mk_trace.specs.declared.section.Section.TheVariants as sections
-use Rattle.mk_trace.specs.Traces.{zeros, client_lines, key_line}
-use Rattle.mk_trace.specs.States.{State, no_round, after}
-use Rattle.mk_trace.specs.Grammar.{in_keys, before_round}
+use Rattle.mk_trace_text.specs.declared.section.Section.{Section}
+use Rattle.mk_trace_text.specs.declared.section.Section.TheVariants as sections
+use Rattle.mk_trace_text.specs.Traces.{zeros, client_lines, key_line}
+use Rattle.mk_trace_text.specs.States.{State, no_round, after}
+use Rattle.mk_trace_text.specs.Grammar.{in_keys, before_round}
 use Rattle.mk_trace.proofs.GrownTables.{columns-push}
-use Rattle.mk_trace.proofs.LinesMore.{zeros-more}
+use Rattle.mk_trace_text.proofs.LinesMore.{zeros-more}
 use Rattle.mk_trace.proofs.FieldsAgain.{AreNames, place_fresh}
-use Rattle.mk_trace.proofs.LinesAgain.{Suits, IsSound}
+use Rattle.mk_trace.proofs.Suited.{Suits, IsSound}
 
 -- the line may come next, and is spelled as with all names
 pub record IsNext (clients keys : List (List ℕ)) (all : List RoundLog) (s : State) (line : TraceLine) : Type 0 where

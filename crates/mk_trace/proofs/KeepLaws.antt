@@ -21,13 +21,13 @@ use Rattle.mk_history.specs.Shape.{columns_of, client_fits, replica_fits, step_f
 use Rattle.mk_quorum.specs.Sizes.{members}
 use Rattle.mk_kept.specs.declared.head.Head.{Head}
 use Rattle.mk_kept.specs.Heads.{history}
-use Rattle.mk_trace.specs.declared.section.Section.{Section}
-use Rattle.mk_trace.specs.declared.section.Section.TheVariants as sections
-use Rattle.mk_trace.specs.Begun.{raised, begun_of, beginner, begun_after}
-use Rattle.mk_trace.specs.States.{State, nothing, no_head, fresh, extended, journaled, closed, with_client, with_key, after}
+use Rattle.mk_trace_text.specs.declared.section.Section.{Section}
+use Rattle.mk_trace_text.specs.declared.section.Section.TheVariants as sections
+use Rattle.mk_trace_text.specs.Begun.{raised, begun_of, beginner, begun_after}
+use Rattle.mk_trace_text.specs.States.{State, nothing, no_head, fresh, extended, journaled, closed, with_client, with_key, after}
 use Rattle.mk_trace_lines.specs.TraceLines.{TraceLine}
 use Rattle.mk_trace_lines.specs.TraceLines.TraceLine.{Opens, Sizes, Declares, Names, Begins, Heads, Logged, Marks, Kept, Changes, Changed, Ends}
-use Rattle.mk_trace.specs.Grammar.{at_start, at_size, in_clients, in_keys, before_column, before_cell, at_end, before_round, in_log, in_journal, in_changes, line_of, taken, line_result, ended}
+use Rattle.mk_trace_text.specs.Grammar.{at_start, at_size, in_clients, in_keys, before_column, before_cell, at_end, before_round, in_log, in_journal, in_changes, line_of, taken, line_result, ended}
 use Rattle.mk_trace.specs.Pieces.{Reading, started, ended_line, byte_behind, fed_byte, fed, finished}
 use Rattle.mk_spelling.specs.declared.fault.TextFault.{TextFault}
 use Rattle.mk_spelling.specs.declared.fault.TextFault.TheVariants as faults

@@ -1,7 +1,4 @@
-pub mod LinesMore
 pub mod PieceLaws
-pub mod Tables
-pub mod Written
 pub mod HandedOut
 pub mod FitLaws
 pub mod LineFits
@@ -10,6 +7,11 @@ pub mod WholeText
 pub mod GrownTables
 pub mod FieldsAgain
 pub mod TurnsAgain
+pub mod PlainWords
+pub mod Suited
+pub mod HeadingsAgain
+pub mod StepsAgain
+pub mod ChangesAgain
 pub mod LinesAgain
 pub mod InTurn
 pub mod LogsInTurn
@@ -19,6 +21,7 @@ pub mod BothWays
 pub mod FieldsBack
 pub mod LinesBack
 pub mod SectionCases
+pub mod HeadStays
 pub mod TablesSoFar
 pub mod SoFar
 pub mod OneSpelling

@@ -45,10 +45,10 @@ use Rattle.mk_trace_lines.specs.ActShapes.AnswerShape.{OkayShape, RefusedShape}
 use Rattle.mk_trace_lines.specs.ActShapes.ActShape.{GetShape, CheckReadShape, CheckWriteShape, CommitReadShape, CommitWriteShape, ReleaseReadShape, ReleaseWriteShape}
 use Rattle.mk_trace_lines.specs.Replies.{ReplyShape, reply_shape, reply_of, suits, shape_behind}
 use Rattle.mk_trace_lines.specs.Replies.ReplyShape.{OneWord, OneNumber, TwoNumbers}
-use Rattle.mk_trace.specs.Begun.{begun_of, beginner}
-use Rattle.mk_trace.specs.States.{State}
-use Rattle.mk_trace.specs.Grammar as spec
-use Rattle.mk_trace.specs.Grammar.{at_start, at_size, in_clients, in_keys, before_column, before_cell, at_end, before_round, in_log, in_journal, in_changes, is_text_of, below, named_place, client_number, attempt_of, key_of, next_at, next_seq, replica_of, column_ascends, cell_ascends, version_text, versions, version_named, are_writes, writes_of, alone_of, viewed_of, changed, epoch_of, member_of, begins_with_digit, by_keyword, by_words, line_of}
+use Rattle.mk_trace_text.specs.Begun.{begun_of, beginner}
+use Rattle.mk_trace_text.specs.States.{State}
+use Rattle.mk_trace_text.specs.Grammar as spec
+use Rattle.mk_trace_text.specs.Grammar.{at_start, at_size, in_clients, in_keys, before_column, before_cell, at_end, before_round, in_log, in_journal, in_changes, is_text_of, below, named_place, client_number, attempt_of, key_of, next_at, next_seq, replica_of, column_ascends, cell_ascends, version_text, versions, version_named, are_writes, writes_of, alone_of, viewed_of, changed, epoch_of, member_of, begins_with_digit, by_keyword, by_words, line_of}
 use Rattle.mk_trace.proofs.FitLaws.{Gives, need_law, bind_law, done_law, failed_law, weaker_law, self_law, found_law, Between, number_law, below_law, leb-from, ltb-from, stamp_law, value_law, attempt_law, key_law, replica_law, writes_law}
 
 -- the attempt that a step begins is its client's next one, and one of 16384

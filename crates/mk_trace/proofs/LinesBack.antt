@@ -30,15 +30,15 @@ use Rattle.mk_trace_lines.specs.LineWords.{keyword_text, keyword_list}
 use Rattle.mk_trace_lines.specs.TraceLines.{TraceLine, key_name, attempt_text, reply_words, change_words, line_words, spelling}
 use Rattle.mk_trace_lines.specs.TraceLines.TraceLine.{Begins, Heads, Logged, Marks}
 use Rattle.mk_trace_lines.specs.ActShapes.{first_of}
-use Rattle.mk_trace.specs.declared.section.Section.{Section}
-use Rattle.mk_trace.specs.declared.section.Section.TheVariants as sections
-use Rattle.mk_trace.specs.Begun.{begun_of, seq_of}
-use Rattle.mk_trace.specs.States.{State}
-use Rattle.mk_trace.specs.Grammar as spec
-use Rattle.mk_trace.specs.Grammar.{at_start, at_size, in_clients, in_keys, before_column, before_cell, at_end, before_round, in_log, in_journal, in_changes, is_text_of, is_up_to, named_place, key_up_to, next_at, next_seq, column_ascends, cell_up_to, cell_ascends, version_text, versions, version_named, are_writes, attempt_of, alone_of, viewed_of, changed, epoch_of, member_of, begins_with_digit, by_keyword, by_words, line_of}
+use Rattle.mk_trace_text.specs.declared.section.Section.{Section}
+use Rattle.mk_trace_text.specs.declared.section.Section.TheVariants as sections
+use Rattle.mk_trace_text.specs.Begun.{begun_of, seq_of}
+use Rattle.mk_trace_text.specs.States.{State}
+use Rattle.mk_trace_text.specs.Grammar as spec
+use Rattle.mk_trace_text.specs.Grammar.{at_start, at_size, in_clients, in_keys, before_column, before_cell, at_end, before_round, in_log, in_journal, in_changes, is_text_of, is_up_to, named_place, key_up_to, next_at, next_seq, column_ascends, cell_up_to, cell_ascends, version_text, versions, version_named, are_writes, attempt_of, alone_of, viewed_of, changed, epoch_of, member_of, begins_with_digit, by_keyword, by_words, line_of}
 use Rattle.mk_trace.proofs.FitLaws.{Gives, need_law, bind_law, done_law, weaker_law, self_law, found_law}
 use Rattle.mk_trace.proofs.FieldsAgain.{ltb-low, digits_again}
-use Rattle.mk_trace.proofs.LinesAgain.{IsColumnBehind, IsCellBehind}
+use Rattle.mk_trace.proofs.Suited.{IsColumnBehind, IsCellBehind}
 use Rattle.mk_trace.proofs.FieldsBack.{one_back, two_back, first_back, none_back, number_is, below_is, text_is, text_back, cut_is, key_is, attempt_is, writes_are, act_shape_is, turn_is, reply_shape_is, reply_is}
 
 -- where a line stands

@@ -15,14 +15,15 @@ use Rattle.mk_history.specs.Shape.{client_fits, replica_fits, step_fits, begins_
 use Rattle.mk_kept.specs.Heads.{history}
 use Rattle.mk_trace_lines.specs.TraceLines.{TraceLine}
 use Rattle.mk_trace_lines.specs.TraceLines.TraceLine.{Heads}
-use Rattle.mk_trace.specs.declared.section.Section.{Section}
-use Rattle.mk_trace.specs.declared.section.Section.TheVariants as sections
-use Rattle.mk_trace.specs.Begun.{raised, begun_of, beginner, begun_after, begun_through, begun_in}
-use Rattle.mk_trace.specs.Traces.{step_line, step_lines, log_lines, logs_lines}
-use Rattle.mk_trace.specs.States.{State, extended, after}
-use Rattle.mk_trace.specs.Grammar.{in_log}
+use Rattle.mk_trace_text.specs.declared.section.Section.{Section}
+use Rattle.mk_trace_text.specs.declared.section.Section.TheVariants as sections
+use Rattle.mk_trace_text.specs.Begun.{raised, begun_of, beginner, begun_after, begun_through, begun_in}
+use Rattle.mk_trace_text.specs.Traces.{step_line, step_lines, log_lines, logs_lines}
+use Rattle.mk_trace_text.specs.States.{State, extended, after}
+use Rattle.mk_trace_text.specs.Grammar.{in_log}
 use Rattle.mk_trace.proofs.GrownTables.{one_if, sum-cons}
-use Rattle.mk_trace.proofs.LinesAgain.{IsSound, client_range}
+use Rattle.mk_trace.proofs.StepsAgain.{client_range}
+use Rattle.mk_trace.proofs.Suited.{IsSound}
 use Rattle.mk_trace.proofs.InTurn.{IsNext, Leads, then, first, none_left}
 
 -- ---- tables

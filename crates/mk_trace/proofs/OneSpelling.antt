@@ -15,17 +15,17 @@ use Rattle.mk_kept.specs.declared.head.Head.{Head}
 use Rattle.mk_kept.specs.Heads.{history}
 use Rattle.mk_trace_lines.specs.TraceLines.{TraceLine, spelling, text_of}
 use Rattle.mk_trace_lines.specs.TraceLines.TraceLine.{Opens, Sizes, Declares, Names, Begins, Heads, Logged, Marks, Kept, Changes, Changed, Ends}
-use Rattle.mk_trace.specs.declared.section.Section.{Section}
-use Rattle.mk_trace.specs.declared.section.Section.TheVariants as sections
-use Rattle.mk_trace.specs.Traces.{trace_lines, trace_text}
-use Rattle.mk_trace.specs.States.{State, nothing, after}
-use Rattle.mk_trace.specs.Grammar.{line_of, taken, line_result, ended, end_result, state_text}
+use Rattle.mk_trace_text.specs.declared.section.Section.{Section}
+use Rattle.mk_trace_text.specs.declared.section.Section.TheVariants as sections
+use Rattle.mk_trace_text.specs.Traces.{trace_lines, trace_text}
+use Rattle.mk_trace_text.specs.States.{State, nothing, after}
+use Rattle.mk_trace_text.specs.Grammar.{line_of, taken, line_result, ended, end_result, state_text}
 use Rattle.mk_trace.specs.Answers.{run_of, run_text}
 use Rattle.mk_trace.proofs.FitLaws.{Gives}
 use Rattle.mk_trace.proofs.LineFits.{Fits, line_law}
 use Rattle.mk_trace.proofs.KeepLaws.{IsKept, KeptIn, IsHead, nothing_kept, kept_line}
 use Rattle.mk_trace.proofs.LinesBack.{Stands, line_is}
-use Rattle.mk_trace.proofs.SectionCases.{start_is, size_is, clients_are, keys_are}
+use Rattle.mk_trace.proofs.HeadStays.{in_rounds, head_at}
 use Rattle.mk_trace.proofs.SoFar.{IsOrdered, nothing_ordered, so_far, lines_in, adds}
 
 -- ---- a line that is read
@@ -73,37 +73,14 @@ small_kept s k = at s.section k
 
 -- ---- the head stays once a round has begun
 
-abbrev in_rounds : Section → Bool
-in_rounds sections.Start = false
-in_rounds sections.Opened = false
-in_rounds sections.Clients = false
-in_rounds sections.Keys = false
-in_rounds _ = true
-
 -- what comes behind a state in rounds has its head
 abbrev KeepsHead : State → State → Type 0
 KeepsHead s t = in_rounds s.section ≡ true → t.head ≡ s.head
 
-outside : (x y : Section) → x ≡ y → in_rounds y ≡ false → in_rounds x ≡ true → ⊥
-outside x y e out h = absurd (cc (ap in_rounds e, out, h))
-
 head_before : (s t : State) (line : TraceLine) → Fits s line → KeepsHead (after s line) t → KeepsHead s t
-head_before s t (Opens v) f k h = absurd (outside s.section sections.Start (start_is s.section f.0) refl h)
-head_before s t (Sizes n) f k h = absurd (outside s.section sections.Opened (size_is s.section f.0) refl h)
-head_before s t (Declares name c) f k h = absurd (outside s.section sections.Clients (clients_are s.section f.0) refl h)
-head_before s t (Names name) f k h = absurd (at (keys_are s.section f.0))
-  where
-    at : (s.section ≡ sections.Clients) ⊎ (s.section ≡ sections.Keys) → ⊥
-    at (inl e) = outside s.section sections.Clients e refl h
-    at (inr e) = outside s.section sections.Keys e refl h
-head_before s t (Begins n) f k h = k refl
-head_before s t (Heads c) f k h = k refl
-head_before s t (Logged seq step) f k h = k refl
-head_before s t (Marks r c) f k h = k refl
-head_before s t (Kept entry) f k h = k refl
-head_before s t Changes f k h = k refl
-head_before s t (Changed entry) f k h = k refl
-head_before s t Ends f k h = k refl
+head_before s t line f k h =
+    let one = head_at s line f h in
+    k one.1 ∙ one.0
 
 abbrev spelled_by : Head → TraceLine → List ℕ
 spelled_by head line = spelling head.client_names.names head.key_names.names line

@@ -8,8 +8,8 @@ use Rattle.mk_spelling.specs.Words.{cut}
 use Rattle.mk_spelling.proofs.Cuts.{Lacks, IsCut-from_cut, Lacks-from_none}
 use Rattle.mk_spelling.proofs.PieceLaws.{finished_is}
 use Rattle.mk_txn.specs.declared.NoMemory.{NoMemory}
-use Rattle.mk_trace.specs.States.{State, nothing}
-use Rattle.mk_trace.specs.Grammar.{line_result, end_result, state_text}
+use Rattle.mk_trace_text.specs.States.{State, nothing}
+use Rattle.mk_trace_text.specs.Grammar.{line_result, end_result, state_text}
 use Rattle.mk_trace.specs.Pieces.{Reading, started, ended_line, byte_behind, fed_byte, fed, answer_of, plainly, finished}
 use Rattle.mk_trace.specs.Answers.{is_reading, fed_behind, ended_behind, held_behind, IsThere, Told, Leaves, Fed}
 

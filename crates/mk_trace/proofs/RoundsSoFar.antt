@@ -10,19 +10,20 @@ use Rattle.mk_history.specs.declared.RoundLog.{RoundLog}
 use Rattle.mk_history.specs.Shape.{IsRoundShape, begins_in, HasShape}
 use Rattle.mk_kept.specs.declared.head.Head.{Head}
 use Rattle.mk_kept.specs.Heads.{history}
-use Rattle.mk_trace.specs.declared.section.Section.{Section}
-use Rattle.mk_trace.specs.declared.section.Section.TheVariants as sections
-use Rattle.mk_trace.specs.States.{State, after}
+use Rattle.mk_trace_text.specs.declared.section.Section.{Section}
+use Rattle.mk_trace_text.specs.declared.section.Section.TheVariants as sections
+use Rattle.mk_trace_text.specs.States.{State, after}
 use Rattle.mk_trace_lines.specs.TraceLines.{TraceLine}
 use Rattle.mk_trace_lines.specs.TraceLines.TraceLine.{Opens, Sizes, Declares, Names, Begins, Heads, Logged, Marks, Kept, Changes, Changed, Ends}
-use Rattle.mk_trace.specs.Grammar.{line_of, taken, line_result, head_of}
+use Rattle.mk_trace_text.specs.Grammar.{line_of, taken, line_result, head_of}
 use Rattle.mk_trace.specs.Pieces.{Reading, started, ended_line, byte_behind, fed_byte, fed}
 use Rattle.mk_trace.specs.Answers.{with_rounds}
 use Rattle.mk_trace.proofs.FitLaws.{Gives}
 use Rattle.mk_trace.proofs.LineFits.{Fits, line_law}
 use Rattle.mk_trace.proofs.GrownTables.{sum-push}
 use Rattle.mk_trace.proofs.HandedOut.{fed_lifted}
-use Rattle.mk_trace.proofs.KeepLaws.{InHead, InRound, KeptIn, IsKept, globals_in, some_count, from_start, from_size, from_clients, from_keys, nothing_kept, kept_byte, kept_fed}
+use Rattle.mk_trace.proofs.HeadStays.{in_rounds, head_at}
+use Rattle.mk_trace.proofs.KeepLaws.{InHead, InRound, KeptIn, IsKept, globals_in, some_count, nothing_kept, kept_byte, kept_fed}
 
 -- ---- their shape
 
@@ -102,22 +103,46 @@ shaped_so_far text taken r e some =
 abbrev IsBehind : State → State → Type 0
 IsBehind s t = (t.head ≡ s.head) × (1 ≤ t.count)
 
-not_now : (s t : State) → InHead s → 1 ≤ s.count → IsBehind s t
-not_now s t h some = let n = h.count in absurd (omega (arith, n, some))
+-- what was kept says whether a round has begun
+in_there : (s : State) → IsKept s → 1 ≤ s.count → in_rounds s.section ≡ true
+in_there s h some = at s.section h
+  where
+    none : (x : Section) → InHead s → in_rounds x ≡ true
+    none x k = let n = k.count in absurd (omega (arith, n, some))
+
+    at : (x : Section) → KeptIn x s → in_rounds x ≡ true
+    at sections.Start k = none sections.Start k
+    at sections.Opened k = none sections.Opened k.0
+    at sections.Clients k = none sections.Clients k.0
+    at sections.Keys k = none sections.Keys k.0
+    at sections.Round k = refl
+    at sections.Column k = refl
+    at sections.Log k = refl
+    at sections.Cell k = refl
+    at sections.Journal k = refl
+    at sections.Globals k = refl
+    at sections.Changes k = refl
+    at sections.Ended k = refl
+
+-- no line takes a round back
+count_after : (s : State) (line : TraceLine) → 1 ≤ s.count → 1 ≤ (after s line).count
+count_after s (Begins n) some = omega (arith, some)
+count_after s (Opens v) some = some
+count_after s (Sizes f) some = some
+count_after s (Declares name column) some = some
+count_after s (Names name) some = some
+count_after s (Heads column) some = some
+count_after s (Logged seq step) some = some
+count_after s (Marks replica key) some = some
+count_after s (Kept entry) some = some
+count_after s Changes some = some
+count_after s (Changed entry) some = some
+count_after s Ends some = some
 
 behind_line : (s : State) (line : TraceLine) → IsKept s → Fits s line → 1 ≤ s.count → IsBehind s (after s line)
-behind_line s (Opens v) h k some = not_now s (after s (Opens v)) (from_start s s.section k.0 h) some
-behind_line s (Sizes f) h k some = let b = from_size s s.section k.0 h in not_now s (after s (Sizes f)) b.0 some
-behind_line s (Declares name column) h k some = let b = from_clients s s.section k.0 h in not_now s (after s (Declares name column)) b.1 some
-behind_line s (Names name) h k some = let b = from_keys s s.section k.0 h in not_now s (after s (Names name)) b.0 some
-behind_line s (Begins n) h k some = (refl, omega (arith, some))
-behind_line s (Heads column) h k some = (refl, some)
-behind_line s (Logged seq step) h k some = (refl, some)
-behind_line s (Marks replica key) h k some = (refl, some)
-behind_line s (Kept entry) h k some = (refl, some)
-behind_line s Changes h k some = (refl, some)
-behind_line s (Changed entry) h k some = (refl, some)
-behind_line s Ends h k some = (refl, some)
+behind_line s line h k some =
+    let one = head_at s line k (in_there s h some) in
+    (one.0, count_after s line some)
 
 behind_taken : (s : State) (r : Result TraceLine TextFault) (t : State) → Gives (Fits s) r → taken s r ≡ Ok t → IsKept s → 1 ≤ s.count → IsBehind s t
 behind_taken s (Ok line) t g e h some = subst (IsBehind s) (ok_is (after s line) t e) (behind_line s line h g.is some)

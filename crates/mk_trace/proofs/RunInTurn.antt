@@ -15,15 +15,15 @@ use Rattle.mk_kept.specs.declared.head.Head.{Head}
 use Rattle.mk_kept.specs.Heads.{history}
 use Rattle.mk_trace_lines.specs.TraceLines.{TraceLine}
 use Rattle.mk_trace_lines.specs.TraceLines.TraceLine.{Opens, Sizes, Begins, Ends}
-use Rattle.mk_trace.specs.declared.section.Section.{Section}
-use Rattle.mk_trace.specs.declared.section.Section.TheVariants as sections
-use Rattle.mk_trace.specs.Begun.{begun_of, begun_in}
-use Rattle.mk_trace.specs.Traces.{zeros, client_lines, key_line, logs_lines, journals_lines, change_lines, round_lines, rounds_lines, trace_lines}
-use Rattle.mk_trace.specs.States.{State, nothing, closed, after}
-use Rattle.mk_trace.specs.Grammar.{before_round, before_cell, at_end, ended}
+use Rattle.mk_trace_text.specs.declared.section.Section.{Section}
+use Rattle.mk_trace_text.specs.declared.section.Section.TheVariants as sections
+use Rattle.mk_trace_text.specs.Begun.{begun_of, begun_in}
+use Rattle.mk_trace_text.specs.Traces.{zeros, client_lines, key_line, logs_lines, journals_lines, change_lines, round_lines, rounds_lines, trace_lines}
+use Rattle.mk_trace_text.specs.States.{State, nothing, closed, after}
+use Rattle.mk_trace_text.specs.Grammar.{before_round, before_cell, at_end, ended}
 use Rattle.mk_trace.proofs.GrownTables.{sum-cons}
 use Rattle.mk_trace.proofs.KeepLaws.{globals_in}
-use Rattle.mk_trace.proofs.LinesAgain.{IsSound, IsCellBehind}
+use Rattle.mk_trace.proofs.Suited.{IsSound, IsCellBehind}
 use Rattle.mk_trace.proofs.InTurn.{IsNext, Leads, then, first, none_left, NamesHold, headed, clients_lead, keys_lead}
 use Rattle.mk_trace.proofs.LogsInTurn.{Room, log_at, logs_lead}
 use Rattle.mk_trace.proofs.CellsInTurn.{Cells, cell_at, journals_lead, changes_lead}

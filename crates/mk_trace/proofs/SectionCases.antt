@@ -1,8 +1,8 @@
 -- The places at which a line may come.
 use Rattle.std.proofs.Common.{◌≡◌, ◌⊎◌, true, refl, inl, inr}
-use Rattle.mk_trace.specs.declared.section.Section.{Section}
-use Rattle.mk_trace.specs.declared.section.Section.TheVariants as sections
-use Rattle.mk_trace.specs.Grammar.{at_start, at_size, in_clients, in_keys, before_column, before_cell, at_end, before_round, in_log, in_journal, in_changes}
+use Rattle.mk_trace_text.specs.declared.section.Section.{Section}
+use Rattle.mk_trace_text.specs.declared.section.Section.TheVariants as sections
+use Rattle.mk_trace_text.specs.Grammar.{at_start, at_size, in_clients, in_keys, before_column, before_cell, at_end, before_round, in_log, in_journal, in_changes}
 
 pub start_is : (x : Section) → at_start x ≡ true → (x ≡ sections.Start)
 start_is sections.Start e = refl

@@ -12,17 +12,17 @@ use Rattle.mk_kept.specs.declared.head.Head.{Head}
 use Rattle.mk_kept.specs.Heads.{history}
 use Rattle.mk_trace_lines.specs.TraceLines.{TraceLine, key_name}
 use Rattle.mk_trace_lines.specs.TraceLines.TraceLine.{Opens, Sizes, Declares, Names, Begins, Heads, Logged, Marks, Kept, Changes, Changed, Ends}
-use Rattle.mk_trace.specs.declared.section.Section.{Section}
-use Rattle.mk_trace.specs.declared.section.Section.TheVariants as sections
-use Rattle.mk_trace.specs.Begun.{seq_of, begun_after, begun_in}
-use Rattle.mk_trace.specs.Traces.{zeros, client_lines, key_line, logs_lines, journals_lines, change_lines, round_lines, rounds_lines, head_lines}
-use Rattle.mk_trace.specs.States.{State, nothing, fresh, extended, journaled, closed, after}
-use Rattle.mk_trace.specs.Grammar.{at_end}
+use Rattle.mk_trace_text.specs.declared.section.Section.{Section}
+use Rattle.mk_trace_text.specs.declared.section.Section.TheVariants as sections
+use Rattle.mk_trace_text.specs.Begun.{seq_of, begun_after, begun_in}
+use Rattle.mk_trace_text.specs.Traces.{zeros, client_lines, key_line, logs_lines, journals_lines, change_lines, round_lines, rounds_lines, head_lines}
+use Rattle.mk_trace_text.specs.States.{State, nothing, fresh, extended, journaled, closed, after}
+use Rattle.mk_trace_text.specs.Grammar.{at_end}
 use Rattle.mk_trace.proofs.KeepLaws.{IsKept, InHead, InRound, every, KeptIn, closed_head, closed_round}
 use Rattle.mk_trace.proofs.GrownTables.{extended-length}
 use Rattle.mk_trace.proofs.LineFits.{Fits}
-use Rattle.mk_trace.proofs.LinesMore.{client_lines-more, begun_by, begun_by-more, rounds_lines-more, zeros-more}
-use Rattle.mk_trace.proofs.LinesAgain.{IsColumnBehind, IsCellBehind}
+use Rattle.mk_trace_text.proofs.LinesMore.{client_lines-more, begun_by, begun_by-more, rounds_lines-more, zeros-more}
+use Rattle.mk_trace.proofs.Suited.{IsColumnBehind, IsCellBehind}
 use Rattle.mk_trace.proofs.LinesBack.{Stands}
 use Rattle.mk_trace.proofs.SectionCases.{start_is, size_is, clients_are, keys_are, column_are, cell_are, end_are, log_are, journal_are, changes_are, round_are}
 use Rattle.mk_trace.proofs.TablesSoFar.{IsSome, Bare, bare_up, bare_at, bare_push, bare_none, some_there, none_begun, no_log_lines, heading_if, logs_push, begun_push, NoneKept, no_journals, BareCells, HasCell, cell_of, none_kept_from, cells_up, has_cell, cell_bare, cells_next, cells_push, has_push, cell_some, marks_if, journals_push, changes_if, changes_push}

@@ -7,10 +7,10 @@ use Rattle.mk_words.specs.declared.JournalEntry.{JournalEntry}
 use Rattle.mk_words.specs.declared.GlobalEntry.{GlobalEntry}
 use Rattle.mk_trace_lines.specs.TraceLines.{TraceLine}
 use Rattle.mk_trace_lines.specs.TraceLines.TraceLine.{Heads, Marks, Kept, Changes, Changed}
-use Rattle.mk_trace.specs.Begun.{begun_after, begun_through, begun_in}
-use Rattle.mk_trace.specs.Traces.{step_line, log_lines, logs_lines, entry_line, journal_lines, replica_lines, journals_lines, change_line, change_lines}
-use Rattle.mk_trace.specs.States.{extended, journaled}
-use Rattle.mk_trace.proofs.LinesMore.{step_lines-more, begun_through-more}
+use Rattle.mk_trace_text.specs.Begun.{begun_after, begun_through, begun_in}
+use Rattle.mk_trace_text.specs.Traces.{step_line, log_lines, logs_lines, entry_line, journal_lines, replica_lines, journals_lines, change_line, change_lines}
+use Rattle.mk_trace_text.specs.States.{extended, journaled}
+use Rattle.mk_trace_text.proofs.LinesMore.{step_lines-more, begun_through-more}
 
 -- it has a member
 abbrev pub IsSome : {A : Type 0} → List A → Type 0

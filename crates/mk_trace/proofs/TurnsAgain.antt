@@ -31,8 +31,8 @@ use Rattle.mk_trace_lines.specs.ActShapes.AnswerShape.{OkayShape, RefusedShape}
 use Rattle.mk_trace_lines.specs.ActShapes.ActShape.{GetShape, CheckReadShape, CheckWriteShape, CommitReadShape, CommitWriteShape, ReleaseReadShape, ReleaseWriteShape}
 use Rattle.mk_trace_lines.specs.Replies.{ReplyShape, reply_shape, reply_of}
 use Rattle.mk_trace_lines.specs.Replies.ReplyShape.{OneWord, OneNumber, TwoNumbers}
-use Rattle.mk_trace.specs.States.{State}
-use Rattle.mk_trace.specs.Grammar.{are_writes, writes_of}
+use Rattle.mk_trace_text.specs.States.{State}
+use Rattle.mk_trace_text.specs.Grammar.{are_writes, writes_of}
 use Rattle.mk_trace.proofs.FieldsAgain.{leb-low, ltb-low, parts, stamp_cut, stamp_again, value_again, AreNames, key_again, write_cut}
 
 -- ---- acts with answers

@@ -12,9 +12,9 @@ use Rattle.mk_trace.specs.declared.error.TraceError.TheVariants as errors
 use Rattle.mk_trace.specs.declared.tracing.Standing.{Standing}
 use Rattle.mk_trace.specs.declared.tracing.Standing.TheVariants as standings
 use Rattle.mk_history.specs.declared.RoundLog.{RoundLog}
-use Rattle.mk_trace.specs.Traces.{trace_text}
-use Rattle.mk_trace.specs.States.{State}
-use Rattle.mk_trace.specs.Grammar.{state_text}
+use Rattle.mk_trace_text.specs.Traces.{trace_text}
+use Rattle.mk_trace_text.specs.States.{State}
+use Rattle.mk_trace_text.specs.Grammar.{state_text}
 use Rattle.mk_trace.specs.Pieces.{Reading, started, fed, finished}
 use Rattle.mk_trace.specs.Answers.{reading_of, fed_behind, Finishes, Answers, run_of, run_text, with_rounds}
 use Rattle.mk_trace.proofs.BothWays.{read_back}

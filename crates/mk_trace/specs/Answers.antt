@@ -11,8 +11,8 @@ use Rattle.mk_trace.specs.declared.error.TraceError.{TraceError}
 use Rattle.mk_trace.specs.declared.error.TraceError.TheVariants as errors
 use Rattle.mk_trace.specs.declared.tracing.Standing.{Standing}
 use Rattle.mk_trace.specs.declared.tracing.Standing.TheVariants as standings
-use Rattle.mk_trace.specs.States.{State}
-use Rattle.mk_trace.specs.Grammar.{line_result, state_text, head_of, seen_head, IsTaken}
+use Rattle.mk_trace_text.specs.States.{State}
+use Rattle.mk_trace_text.specs.Grammar.{line_result, state_text, head_of, seen_head, IsTaken}
 use Rattle.mk_trace.specs.Pieces.{Reading, started, ended_line, fed, finished}
 
 -- what was read; none once memory has run out

@@ -1,8 +1,4 @@
 -- Traces: the text of a run, and what is read of a text.
-pub mod Begun
-pub mod Traces
-pub mod States
-pub mod Grammar
 pub mod Pieces
 pub mod Seen
 pub mod Writes

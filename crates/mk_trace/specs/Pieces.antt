@@ -3,8 +3,8 @@ use Rattle.std.specs.Prelude.{ℕ, List, [], ◌∷◌, ◌++◌, ◌==◌, Opti
 use Rattle.mk_spelling.specs.declared.fault.TextFault.{TextFault}
 use Rattle.mk_spelling.specs.Lines.{Refusal, next_number}
 use Rattle.mk_spelling.specs.Pieces as plain
-use Rattle.mk_trace.specs.States.{State, nothing}
-use Rattle.mk_trace.specs.Grammar.{line_result, end_result}
+use Rattle.mk_trace_text.specs.States.{State, nothing}
+use Rattle.mk_trace_text.specs.Grammar.{line_result, end_result}
 
 -- what the good lines said, the first fault, the number of the line that comes, and its bytes so far
 pub record Reading : Type 0 where

@@ -5,8 +5,8 @@ use Rattle.mk_kept.specs.declared.head.Head.{Head}
 use Rattle.mk_trace_lines.specs.TraceLines.{TraceLine}
 use Rattle.mk_trace.specs.declared.error.LineError.{LineError}
 use Rattle.mk_trace.specs.declared.error.LineError.TheVariants as errors
-use Rattle.mk_trace.specs.States.{State}
-use Rattle.mk_trace.specs.Grammar.{taken}
+use Rattle.mk_trace_text.specs.States.{State}
+use Rattle.mk_trace_text.specs.Grammar.{taken}
 
 -- the limits of the tables, and the counts that have them
 pub record IsWithin (head : Head) (count changes : ℕ) : Type 0 where

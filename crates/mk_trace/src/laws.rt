@@ -5,10 +5,10 @@ ghost use Rattle.mk_history.specs.declared.RoundLog.{RoundLog as Round};
 ghost use Rattle.mk_history.specs.Shape.{HasShape};
 ghost use Rattle.mk_kept.specs.declared.head.Head.{Head};
 ghost use Rattle.mk_kept.specs.Heads.{history};
-ghost use Rattle.mk_trace.specs.Grammar.{state_text, head_of};
+ghost use Rattle.mk_trace_text.specs.Grammar.{state_text, head_of};
 ghost use Rattle.mk_trace.specs.Pieces.{Reading, started, fed, finished};
 ghost use Rattle.mk_trace.specs.Answers.{with_rounds, run_of, run_text, answer_with};
-ghost use Rattle.mk_trace.specs.Traces.{trace_text};
+ghost use Rattle.mk_trace_text.specs.Traces.{trace_text};
 
 /// A trace that comes in pieces is answered as the whole text is, wherever it is cut.
 #[tactic(auto, using(crate::proofs::PieceLaws::finished_text))]

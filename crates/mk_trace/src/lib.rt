@@ -2,12 +2,8 @@
 #![tactic(auto)]
 
 mod error;
-mod fields;
 mod laws;
-mod places;
 mod reader;
-mod rounds;
-mod section;
 mod tracing;
 mod writing;
 

@@ -4,18 +4,14 @@ ghost use Rattle.mk_spelling.specs.Fields.{found, place};
 ghost use Rattle.mk_spelling.specs.Words.{is_name, words, words_behind};
 ghost use Rattle.mk_spelling.specs.declared.fault.TextFault.TheVariants.{Unknown};
 ghost use Rattle.mk_trace_lines.specs.TraceLines.TraceLine.{Declares, Names as NamesLine, Begins, Logged, Changed, Ends};
-ghost use Rattle.mk_trace.specs.States.{nothing, after};
-ghost use Rattle.mk_trace.specs.Begun.{begun_after};
-ghost use Rattle.mk_trace.specs.Grammar as spec;
+ghost use Rattle.mk_trace_text.specs.States.{nothing, after};
+ghost use Rattle.mk_trace_text.specs.Begun.{begun_after};
+ghost use Rattle.mk_trace_text.specs.Grammar as spec;
 ghost use Rattle.mk_history.specs.Shape.{HasShape};
 ghost use Rattle.mk_kept.specs.Heads.{history};
 ghost use Rattle.mk_trace.specs.Seen.{Meets, MeetsLine, Fails};
 
 use crate::error::LineError;
-use crate::fields::{are_writes, begins_with_digit, below, is_text_of, is_up_to, version_of};
-use crate::places;
-use crate::rounds::{empty_journals, empty_logs, push_entry, push_step, raise};
-use crate::section::Section;
 use mk_history::{ColumnNumbers, Globals, Journals, Logs, RoundLog, Rounds};
 use mk_kept::{Head, Run};
 use mk_names::Names;
@@ -27,6 +23,11 @@ use mk_text::{
 use mk_trace_lines::{
     Keyword, Replier, act_shape, first, keyword, reply, reply_shape, turn, value as written_value,
 };
+use mk_trace_parts::{
+    are_writes, begins_with_digit, below, empty_journals, empty_logs, is_text_of, is_up_to, places,
+    push_entry, push_step, raise, version_of,
+};
+use mk_trace_text::Section;
 use mk_txn::{TxnId, WriteItem};
 use mk_words::{GlobalAnswer, GlobalEntry, GlobalLine, JournalEntry, KeyCall, Step, Writes};
 use std::alloc::Global;
@@ -55,7 +56,7 @@ pub struct Reader {
 
 impl Model for Reader {
     ghost use Rattle.std.specs.Prelude.{map};
-    ghost use Rattle.mk_trace.specs.States.{State};
+    ghost use Rattle.mk_trace_text.specs.States.{State};
     ghost use Rattle.mk_trace.specs.Seen.{IsWithin};
 
     ghost Value = { State };

@@ -4,7 +4,7 @@ ghost use Rattle.mk_history.specs.Histories.{History};
 ghost use Rattle.mk_history.specs.Shape.{HasShape};
 ghost use Rattle.mk_spelling.specs.Lines.{next_number};
 ghost use Rattle.mk_trace.specs.Pieces as spec;
-ghost use Rattle.mk_trace.specs.Traces.{trace_text};
+ghost use Rattle.mk_trace_text.specs.Traces.{trace_text};
 ghost use Rattle.mk_trace.specs.Answers.{Fed, HeadIs, Takes, Finishes, Told, Leaves, is_reading, held_behind, ended_behind, Answers, run_text};
 
 use crate::error::{LineError, TraceError};

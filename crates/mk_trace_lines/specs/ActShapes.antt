@@ -3,7 +3,7 @@ use Rattle.std.specs.Prelude.{◌^◌, ◌-◌, ℕ, Bool, true, false, ◌==◌
 use Rattle.std.specs.Str.{bytes_eq}
 use Rattle.mk_spelling.specs.declared.fault.TextFault.{TextFault}
 use Rattle.mk_spelling.specs.declared.fault.TextFault.TheVariants as faults
-use Rattle.mk_spelling.specs.Words.{cut, is_number, ranged, number, value, none_left}
+use Rattle.mk_spelling.specs.Words.{cut, are_digits, is_number, ranged, number, value, small_value, none_left}
 use Rattle.mk_spelling.specs.Fields.{◌>>=◌, ◌>>◌, need, found, named, one_of, two_of}
 use Rattle.mk_txn.specs.declared.Stamp.{Stamp}
 use Rattle.mk_txn.specs.declared.Value.{Value}
@@ -135,6 +135,14 @@ act_shape ws = do
   shape_behind word w.1
 
 -- ---- the fields
+
+-- the value of digits, where it is below 2^64
+abbrev pub digits_sum : List ℕ → Option ℕ
+digits_sum word = if are_digits word then small_value word else None
+
+-- the number below 2^64 that the word is
+abbrev pub small_number : List ℕ → Option ℕ
+small_number word = if is_number word then small_value word else None
 
 -- both parts of a stamp are numbers, then both are in range
 abbrev pub stamp_of : Parts → Result Stamp TextFault

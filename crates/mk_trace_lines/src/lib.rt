@@ -2,6 +2,7 @@
 #![tactic(auto)]
 
 mod keywords;
+mod numbers;
 mod printing;
 mod replies;
 mod shapes;

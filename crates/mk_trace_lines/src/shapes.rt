@@ -7,10 +7,9 @@ ghost use Rattle.mk_trace_lines.specs.LineWords as texts;
 ghost use Rattle.mk_trace_lines.specs.Seen.{seen_first, seen_stamp, seen_answer, seen_act, stamped, answered, acted};
 ghost use Rattle.mk_trace_lines.specs.ActShapes as spec;
 
+use crate::numbers::{any_number, number_fault, small_number};
 use crate::words::ActWord;
-use mk_text::{
-    TextFault, cut_word, is_number, need, next_word, none_left, number, one, ranged, two,
-};
+use mk_text::{TextFault, cut_word, is_number, next_word, none_left, one, two};
 use mk_txn::{LAST_TIME, Reason, Stamp, Value};
 use mk_words::{Act, Answer};
 
@@ -185,11 +184,13 @@ pub fn act_shape(text: Option<&[u8]>) -> Result<Acted<'_>, TextFault>
 fn stamp(parts: Stamped<'_>) -> Result<Stamp, TextFault>
     ensures { result ≡ spec.stamp_of (stamped parts.entry) }
 {
-    need(is_number(parts.time), TextFault::Number)?;
-    need(is_number(parts.client), TextFault::Number)?;
-    let time = ranged(parts.time, 0, LAST_TIME)?;
-    let client = ranged(parts.client, 0, 64)? as u32;
-    Ok(Stamp { time, client })
+    match (small_number(parts.time), small_number(parts.client)) {
+        (Some(time), Some(client)) if time <= LAST_TIME && client <= 64 => Ok(Stamp {
+            time,
+            client: client as u32,
+        }),
+        _ => Err(number_fault(is_number(parts.time) && is_number(parts.client))),
+    }
 }
 
 /// The value that the word is: a number, or in version 2 `none`.
@@ -199,7 +200,7 @@ pub fn value(version: u32, word: &[u8]) -> Result<Value, TextFault>
     if version == 2 && is_none(word) {
         return Ok(Value::Absent);
     }
-    Ok(Value::Number(number(word, 0, u64::MAX)?))
+    Ok(Value::Number(any_number(word)?))
 }
 
 fn is_none(word: &[u8]) -> bool

@@ -10,4 +10,4 @@ returns-clause-has c =
     let id = c.in-Some.id in
     let named : id_named c.args.client.now c.args.seq run ≡ Some id = sym c.id_of.ensures ∙ c.in-Some.is in
     let is : reason_of run id ≡ Some c.in-Some-2.reason = sym c.in_ok-reason.ensures.reason ∙ c.in-Some-2.is in
-    has-named run _ id named (has-attempt run id c.in-Some-2.reason is (c.attempts_have_lines.ensures.only run c.head-head.ensures.shape c.requires))
+    has-named run _ id named (has-attempt run id c.in-Some-2.reason is (c.attempts_have_lines.ensures.only run c.has_shape.ensures c.requires))

@@ -14,7 +14,7 @@ new-requires-2 c =
     let items : c.push_reserved.new.self.items ≡ c.new.result ∷ [] = c.push_reserved.ensures.items ∙ (λ i. (c.reserve.ensures.items ∙ c.new-slots.ensures.items) i ++ c.new.result ∷ []) in
     let is : c.new.result ≡ kept key [] = c.new.ensures ∙ ap (λ (v : CellView). record { opening = v.state; entries = [] }) (sym c.of.ensures) in
     let few = c.ranges.seats.fits in
-    subst (λ (l : List JournalState). IsKept key (opening (0 ∷ 0 ∷ []) l (begins key))) (sym items) (opens key c.new.result is (omega arith))
+    subst (λ (l : List JournalState). IsKept key (opening (0 ∷ 0 ∷ 0 ∷ []) l (begins key))) (sym items) (opens key c.new.result is (omega arith))
 
 pub returns-clause-seats : goal.returns-clause-seats
 returns-clause-seats c = fresh_are_seats _ _ _ c.in_ok-dealt.ensures.count c.in_ok-dealt.ensures.fresh

@@ -1,6 +1,6 @@
 use Rattle.std.proofs.Common.{◌≡◌, length}
 use Rattle.mk_spelling.specs.Words.{words_behind}
-use Rattle.mk_trace.specs.Grammar.{writes_of}
+use Rattle.mk_trace_text.specs.Grammar.{writes_of}
 use Rattle.mk_trace.specs.Writes.{behind}
 use Rattle.mk_trace.proofs.reader.Reader.writes.Given as goal
 

@@ -1,5 +1,0 @@
-use Rattle.std.proofs.Common.{◌≡◌, map, replicate, []}
-use Rattle.mk_trace.proofs.rounds.empty_keys.Given as goal
-
-abbrev pub invariant-each : goal.invariant-each
-invariant-each l = map (λ key. key.items) l.made.items ≡ replicate l.counter []

@@ -1,0 +1,8 @@
+use Rattle.std.proofs.Common.{◌≡◌, ◌++◌, take, map}
+use Rattle.std.specs.String.{string_bytes}
+use Rattle.mk_trace_lines.specs.TraceLines.{text_of}
+use Rattle.mk_trace_text.specs.Traces.{change_line}
+use Rattle.mk_trace_parts.proofs.writing.put_each_change.Given as goal
+
+abbrev pub invariant-each : goal.invariant-each
+invariant-each l = string_bytes l.out ≡ string_bytes l.fn.out ++ text_of l.clients.names l.keys.names (map change_line (take l.entry-index l.globals))
