@@ -32,6 +32,6 @@ impl Past {
         mk_report::commits_are_distinct();
         mk_safety::commits_are_explained();
         run.has_shape();
-        indexed(alloc, lines)
+        Ok(indexed(alloc, lines)?)
     }
 }

@@ -1,5 +1,5 @@
 -- A stamp may be marked where it lies between the bounds.
-use Rattle.std.proofs.Common.{◌≡◌, ◌∙◌, ◌<◌, ℕ, Bool, true, false, not, ◌&&◌, ◌||◌, refl, sym, ap, arith, List, [], ◌∷◌, Option, Some, None, length, if◌then◌else◌}
+use Rattle.std.proofs.Common.{◌≡◌, ◌∙◌, ◌<◌, ◌==◌, ℕ, Bool, true, false, not, ◌&&◌, ◌||◌, refl, sym, ap, arith, List, [], ◌∷◌, Option, Some, None, length, if◌then◌else◌}
 use Rattle.std.specs.List.{list_all}
 use Rattle.std.proofs.lemmas.Bool.Decides.{nat_tests}
 use Rattle.mk_txn.specs.declared.Stamp.{Stamp}
@@ -58,6 +58,9 @@ greatest-is all clients (x ∷ part) =
         greatest_between (first_open all) (least_last all clients) (x ∷ part) ≡ greatest (if b then x.stamp ∷ markable clients all part else markable clients all part)
     by true is rest = ap (λ (b : Bool). if b then later_stamp x.stamp (greatest_between (first_open all) (least_last all clients) part) else greatest_between (first_open all) (least_last all clients) part) (sym is) ∙ ap (later_stamp x.stamp) rest
     by false is rest = ap (λ (b : Bool). if b then later_stamp x.stamp (greatest_between (first_open all) (least_last all clients) part) else greatest_between (first_open all) (least_last all clients) part) (sym is) ∙ rest
+
+pub some-there : (n : ℕ) → (n == 0) ≡ false → 0 < n
+some-there n h = grind (arith, nat_tests, h)
 
 -- so the greatest stamp between them is the mark stamp
 pub mark-is : (all : List Stamped) (clients : List ℕ) → 0 < length clients → greatest_between (first_open all) (least_last all clients) all ≡ mark_for clients all

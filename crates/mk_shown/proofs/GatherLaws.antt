@@ -1,5 +1,5 @@
 -- What is gathered of a column are its stamped attempts.
-use Rattle.std.proofs.Common.{◌≡◌, ◌∙◌, ◌<◌, ◌+◌, ◌-◌, ◌==◌, ℕ, zero, suc, Bool, true, refl, sym, ap, subst, arith, inl, inr, List, [], ◌∷◌, ◌++◌, Option, Some, None, find, map}
+use Rattle.std.proofs.Common.{◌≡◌, ◌∙◌, ◌<◌, ◌+◌, ◌-◌, ◌==◌, ℕ, zero, suc, Bool, true, refl, sym, ap, subst, arith, inl, inr, List, [], ◌∷◌, ◌++◌, Option, Some, None, find, map, append_assoc}
 use Rattle.std.specs.Prelude.{option_map, unwrap_or}
 use Rattle.std.proofs.lemmas.Bool.{eqb-true}
 use Rattle.mk_lists.specs.Among.{Among, Among-append, Among-append_left, Among-append_right}
@@ -19,6 +19,17 @@ use Rattle.mk_shown.proofs.MemberLaws.{IsPart}
 -- a transaction as it is gathered
 abbrev one : (TxnId → Bool) → Transaction → Stamped
 one closed txn = record { id = txn.id; stamp = txn.stamp; closed = closed txn.id }
+
+-- the attempt at a place that is not the last, and the others
+pub gathered-next : (closed : TxnId → Bool) (column : ColumnState) (client seq end : ℕ) (stamped : List Stamped) → seq < end →
+    (stamped ++ gathered_attempt closed (attempt_of column (record { client = client; seq = seq }))) ++ gathered_from closed column client (seq + 1) (end - (seq + 1))
+    ≡ stamped ++ gathered_from closed column client seq (end - seq)
+gathered-next closed column client seq end stamped lt =
+    append_assoc stamped (gathered_attempt closed (attempt_of column (record { client = client; seq = seq }))) (gathered_from closed column client (seq + 1) (end - (seq + 1)))
+    ∙ ap (λ (n : ℕ). stamped ++ gathered_from closed column client seq n) count
+  where
+    count : suc (end - (seq + 1)) ≡ end - seq
+    count = omega (arith, lt)
 
 -- ---- each of them is an attempt's
 

@@ -3,3 +3,4 @@ mod MemberLaws
 mod ToldLaws
 mod GatherLaws
 mod WatermarkLaws
+mod FollowLaws

@@ -1,5 +1,5 @@
 -- The mark stamp of a list of stamped attempts goes by its members alone.
-use Rattle.std.proofs.Common.{◌≡◌, ◌⊎◌, ◌∙◌, ℕ, Bool, true, false, cond, not, ◌&&◌, ◌||◌, ◌==◌, refl, sym, ap, subst, inl, inr, List, [], ◌∷◌}
+use Rattle.std.proofs.Common.{◌≡◌, ◌⊎◌, ◌∙◌, ℕ, Bool, true, false, cond, not, ◌&&◌, ◌||◌, ◌==◌, refl, sym, ap, subst, inl, inr, arith, List, [], ◌∷◌}
 use Rattle.std.specs.List.{list_all}
 use Rattle.std.proofs.lemmas.Bool.{false≢true, eqb-true}
 use Rattle.std.proofs.lemmas.Bool.Decides.{nat_tests}
@@ -16,7 +16,7 @@ abbrev pub IsPart : List Stamped → List Stamped → Type 0
 IsPart xs ys = (s : Stamped) → Among s xs → Among s ys
 
 not_below_zero : (s : Stamp) → is_before s zero_stamp ≡ false
-not_below_zero s = grind (nat_tests)
+not_below_zero s = grind (arith, nat_tests)
 
 -- ---- what is open
 
@@ -42,7 +42,7 @@ last-above (x ∷ xs) client s m e = by (x.id.client == client) refl m (λ l. la
     by false k (inr l) again = again l
 
 itself : (n : ℕ) → (n == n) ≡ true
-itself n = grind (nat_tests)
+itself n = grind (arith, nat_tests)
 
 last-part : (xs ys : List Stamped) (client : ℕ) → IsPart xs ys → is_before (last_of ys client) (last_of xs client) ≡ false
 last-part xs ys client part = by (last-cases xs client)

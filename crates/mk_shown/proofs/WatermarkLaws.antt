@@ -25,6 +25,7 @@ use Rattle.mk_run_laws.specs.RunLaws.{IdsInRuns, TeachingStays, RunsReachMoments
 use Rattle.mk_run_laws.specs.TaughtIn.{taught_in}
 use Rattle.mk_run_laws.proofs.StampColumns.{numbers_then}
 use Rattle.mk_state.specs.Handing.{states_in}
+use Rattle.mk_run.specs.declared.firsts.FirstLearning.{FirstLearning}
 use Rattle.mk_run.specs.Firsts.{first_in, first_found}
 use Rattle.mk_run.specs.Lines.{view_at}
 use Rattle.mk_run.specs.Walking.{told_along, WalkView, HasWalked}
@@ -65,7 +66,10 @@ column-is (column ∷ columns) (suc c) lt = column-is columns c (omega (arith, l
 told-found : (id : TxnId) (all : List Found) → is_some (first_found id all) ≡ list_any (λ f. same_id f.id id) all
 told-found id all = by (find (λ f. same_id f.id id) all) ∙ sym (list_any-find (λ (f : Found). same_id f.id id) all)
   where
-    by : (o : Option Found) → is_some (option_map (λ (f : Found). record { id = f.id; outcome = f.outcome; path = first_path id all }) o) ≡ is_some o
+    found_of : Found → FirstLearning
+    found_of f = record { id = f.id; outcome = f.outcome; path = first_path id all }
+
+    by : (o : Option Found) → is_some (option_map found_of o) ≡ is_some o
     by None = refl
     by (Some f) = refl
 

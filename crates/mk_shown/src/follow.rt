@@ -1,10 +1,12 @@
 //! What `run --follow` writes of a run.
-ghost use Rattle.std.specs.Prelude.{◌≡◌, ◌≢◌, ◌≤◌, ◌++◌, List, IfOk, OnOk, length};
+ghost use Rattle.std.specs.Prelude.{◌≡◌, ◌≢◌, ◌≤◌, ◌<◌, ◌++◌, List, IfOk, OnOk, length, if◌then◌else◌};
 ghost use Rattle.std.specs.String.{string_bytes};
 ghost use Rattle.mk_txn.specs.Transactions.{Transaction};
 ghost use Rattle.mk_history.specs.Legality.{IsLegal};
 ghost use Rattle.mk_history.specs.Learning.{commits as commits_of};
 ghost use Rattle.mk_run.specs.Attempts.{outcomes_of};
+ghost use Rattle.mk_model.specs.OneCopy.{version_in};
+ghost use Rattle.mk_report.specs.StoreTexts.{is_written};
 ghost use Rattle.mk_past.specs.Indexes.{IsPastOf};
 ghost use Rattle.mk_past.specs.Pasts.{copy_at};
 ghost use Rattle.mk_feed_words.specs.MarkStamps.{last_mark};
@@ -21,16 +23,22 @@ use mk_run::{AttemptLine, Run, Walk};
 use mk_txn::{NoMemory, Stamp, Value, precedes};
 use std::alloc::{AllocError, Global};
 
+// Whether the key was written by commits up to the stamp, as a number.
+fn written_once(past: &Past, key: u32, stamp: Stamp) -> u32
+    ensures few { result ≤ 1 }
+    ensures is { (commits : List Transaction) → IsPastOf past.now commits → result ≡ (if is_written (version_in (copy_at stamp commits) key) then 1 else 0) }
+{
+    let (version, _) = past.at(key, stamp);
+    if precedes(ZERO, version) { 1 } else { 0 }
+}
+
 // How many of these keys were written by commits up to the stamp.
 fn written_at(past: &Past, keys: u32, stamp: Stamp) -> u32
-    ensures count { (commits : List Transaction) → IsPastOf past.now commits → result ≡ spec.written_in (copy_at stamp commits) keys }
+    ensures { (commits : List Transaction) → IsPastOf past.now commits → result ≡ spec.written_in (copy_at stamp commits) keys }
 {
     let mut count = 0;
     'each: for key in 0..keys {
-        let (version, _) = past.at(key, stamp);
-        if precedes(ZERO, version) {
-            count += 1;
-        }
+        count += written_once(past, key, stamp);
     }
     count
 }
