@@ -1,11 +1,10 @@
 -- A stamp may be marked where it lies between the bounds.
 use Rattle.std.proofs.Common.{◌≡◌, ◌∙◌, ◌<◌, ◌==◌, ℕ, Bool, true, false, not, ◌&&◌, ◌||◌, refl, sym, ap, arith, List, [], ◌∷◌, Option, Some, None, length, if◌then◌else◌}
-use Rattle.std.specs.List.{list_all}
 use Rattle.std.proofs.lemmas.Bool.Decides.{nat_tests}
 use Rattle.mk_txn.specs.declared.Stamp.{Stamp}
-use Rattle.mk_txn.specs.Stamps.{zero_stamp, is_before, later_stamp}
+use Rattle.mk_txn.specs.Stamps.{is_before, later_stamp}
 use Rattle.mk_feed_words.specs.Feed.{earlier_stamp}
-use Rattle.mk_feed_words.specs.MarkStamps.{Stamped, greatest, last_of, is_below_open, is_within_lasts, may_be_marked, markable, mark_stamp, mark_for}
+use Rattle.mk_feed_words.specs.MarkStamps.{Stamped, greatest, last_of, is_below_open, is_within_lasts, may_be_marked, markable, mark_for}
 use Rattle.mk_shown.specs.Marks.{earlier_of, first_open, least_last, is_below, is_above, is_between, greatest_between}
 
 -- ---- bounds

@@ -1,5 +1,5 @@
 -- The lines that are written behind a report, one after the other.
-use Rattle.std.proofs.Common.{◌≡◌, ◌∙◌, ◌<◌, ◌+◌, ◌-◌, ℕ, suc, Bool, cond, refl, sym, ap, subst, arith, add_assoc, append_assoc, List, [], ◌∷◌, ◌++◌, map, length, take, drop, get_or, drop-cons, add-one, if◌then◌else◌}
+use Rattle.std.proofs.Common.{◌≡◌, ◌∙◌, ◌<◌, ◌+◌, ◌-◌, ℕ, suc, Bool, cond, sym, ap, subst, arith, add_assoc, append_assoc, List, [], ◌∷◌, ◌++◌, map, length, take, drop, get_or, drop-cons, add-one, if◌then◌else◌}
 use Rattle.std.specs.Prelude.{count_by}
 use Rattle.std.specs.Borrow.{Bor}
 use Rattle.std.specs.List.{flat_map}
@@ -70,17 +70,17 @@ rounds_here rounds i d lt =
 
 -- the next round of a run, and the lines with its own
 module _ (run : History) (items : List RoundLog) (i : ℕ) (round : RoundLog) (same : items ≡ run.rounds) (within : i < length items) (at : round ≡ get_or items i round) where
-  lt : i < length run.rounds
-  lt = (let count = ap (λ (rs : List RoundLog). length rs) same in omega (arith, within, count))
+  pub rounds-within : i < length run.rounds
+  rounds-within = (let count = ap (λ (rs : List RoundLog). length rs) same in omega (arith, within, count))
 
   here : round ≡ get_or run.rounds i round
   here = at ∙ ap (λ (rs : List RoundLog). get_or rs i round) same
 
   with_it : take i run.rounds ++ round ∷ [] ≡ take (i + 1) run.rounds
-  with_it = ap (λ (r : RoundLog). take i run.rounds ++ r ∷ []) here ∙ sym (take_more run.rounds i round lt)
+  with_it = ap (λ (r : RoundLog). take i run.rounds ++ r ∷ []) here ∙ sym (take_more run.rounds i round rounds-within)
 
   split : run.rounds ≡ take i run.rounds ++ round ∷ drop (i + 1) run.rounds
-  split = rounds_here run.rounds i round lt ∙ ap (λ (r : RoundLog). take i run.rounds ++ r ∷ drop (i + 1) run.rounds) (sym here)
+  split = rounds_here run.rounds i round rounds-within ∙ ap (λ (r : RoundLog). take i run.rounds ++ r ∷ drop (i + 1) run.rounds) (sym here)
 
   pub may-walk : (walk : WalkView) → HasShape run → IsLegal run → HasWalked run walk (take i run.rounds) → MayWalk run (take i run.rounds) walk round
   may-walk walk shape legal was = record { rest = drop (i + 1) run.rounds; shape = shape; legal = legal; rounds = split; walked = was }
@@ -93,7 +93,7 @@ module _ (run : History) (items : List RoundLog) (i : ℕ) (round : RoundLog) (s
       shown_text (i + 1) (watermark_by walk client_columns) (written_in (copy_at (watermark_by walk client_columns) (commits run)) keys) ≡ shown_line run (i + 1)
   line-is shown legal walk was client_columns clients_are keys keys_are =
       let done = take (i + 1) run.rounds in
-      let number : length done ≡ i + 1 = length-take-le (i + 1) run.rounds (omega (arith, lt)) in
+      let number : length done ≡ i + 1 = length-take-le (i + 1) run.rounds (let lt = rounds-within in omega (arith, lt)) in
       let is : watermark_by walk client_columns ≡ watermark_after run (i + 1) =
       ap (watermark_by walk) clients_are ∙ shown run legal done (drop (i + 1) run.rounds) (sym (take-append-drop (i + 1) run.rounds)) walk was ∙ ap (watermark_after run) number in
       λ j. shown_text (i + 1) (is j) (written_in (copy_at (is j) (commits run)) (keys_are j))

@@ -1,5 +1,5 @@
 -- What is gathered of a column are its stamped attempts.
-use Rattle.std.proofs.Common.{◌≡◌, ◌∙◌, ◌<◌, ◌+◌, ◌-◌, ◌==◌, ℕ, zero, suc, Bool, true, refl, sym, ap, subst, arith, inl, inr, List, [], ◌∷◌, ◌++◌, Option, Some, None, find, map, append_assoc}
+use Rattle.std.proofs.Common.{◌≡◌, ◌∙◌, ◌<◌, ◌+◌, ◌-◌, ℕ, zero, suc, Bool, refl, sym, ap, subst, arith, inl, inr, List, [], ◌∷◌, ◌++◌, Option, Some, None, find, map, append_assoc}
 use Rattle.std.specs.Prelude.{option_map, unwrap_or}
 use Rattle.std.proofs.lemmas.Bool.{eqb-true}
 use Rattle.mk_lists.specs.Among.{Among, Among-append, Among-append_left, Among-append_right}
@@ -7,7 +7,7 @@ use Rattle.mk_lists.proofs.Lookups.{find-map, find_tells}
 use Rattle.mk_lists.proofs.Members.{Among-map}
 use Rattle.mk_txn.specs.declared.TxnId.{TxnId}
 use Rattle.mk_txn.specs.Transactions.{Transaction}
-use Rattle.mk_model.specs.ColumnState.{ColumnState, AttemptState, ClientState, is_attempt, attempt_of, is_client, client_of}
+use Rattle.mk_model.specs.ColumnState.{ColumnState, AttemptState, ClientState, is_attempt, attempt_of, is_client}
 use Rattle.mk_model.specs.Logs.{not_reading}
 use Rattle.mk_column_laws.specs.Identity.{Identity}
 use Rattle.mk_run.specs.Attempts.{begun_by}
@@ -95,7 +95,7 @@ there-clients closed column client (k ∷ clients) s (inr m) told =
 
 -- the attempts of this column, as they are closed in another
 module _ (m : ColumnState) (ids : Identity m.clients m.attempts) (found : (a : AttemptState) → Among a m.attempts → attempt_of m a.id ≡ Some a) (settled : List TxnId) (column : ColumnState) (clients : List ℕ)
-  (numbers : map (λ (x : ClientState). x.number) m.clients ≡ clients) where
+    (numbers : map (λ (x : ClientState). x.number) m.clients ≡ clients) where
   pub gathered-part : IsPart (gathered (is_closed settled column) m clients) (stamped_of settled column m.attempts)
   gathered-part s mem =
       let g = from-clients (is_closed settled column) m clients s mem in

@@ -1,13 +1,13 @@
 -- The mark stamp of a list of stamped attempts goes by its members alone.
 use Rattle.std.proofs.Common.{◌≡◌, ◌⊎◌, ◌∙◌, ℕ, Bool, true, false, cond, not, ◌&&◌, ◌||◌, ◌==◌, refl, sym, ap, subst, inl, inr, arith, List, [], ◌∷◌}
 use Rattle.std.specs.List.{list_all}
-use Rattle.std.proofs.lemmas.Bool.{false≢true, eqb-true}
+use Rattle.std.proofs.lemmas.Bool.{false≢true}
 use Rattle.std.proofs.lemmas.Bool.Decides.{nat_tests}
 use Rattle.mk_lists.specs.Among.{Among}
 use Rattle.mk_lists.proofs.Tests.{list_all-among, list_all-from_Among, same-from_tests}
 use Rattle.mk_txn.specs.declared.Stamp.{Stamp}
 use Rattle.mk_txn.specs.Stamps.{zero_stamp, is_before, later_stamp}
-use Rattle.mk_txn.proofs.StampOrder.{same-from_neither, later_stamp-left, later_stamp-above, not_before-through, later_stamp-right}
+use Rattle.mk_txn.proofs.StampOrder.{same-from_neither, later_stamp-left, not_before-through, later_stamp-right}
 use Rattle.mk_feed_words.specs.MarkStamps.{Stamped, greatest, last_of, is_below_open, is_within_lasts, may_be_marked, markable, mark_stamp, mark_for}
 use Rattle.mk_mark_laws.proofs.MarkStamps.{HasStamp, last-cases}
 

@@ -15,13 +15,12 @@ use Rattle.mk_words.specs.declared.GlobalLine.TheVariants.{Wipe, Ask, Promise, M
 use Rattle.mk_words.specs.declared.Step.{Step}
 use Rattle.mk_model.specs.ColumnState.{Setting, ColumnState, Learning}
 use Rattle.mk_model.specs.EpochState.{made_for}
-use Rattle.mk_model.specs.GlobalAnswers.{is_accepted}
 use Rattle.mk_model.specs.GlobalSteps.{base_or_empty}
 use Rattle.mk_model.specs.Learnings.{learned_in_step}
 use Rattle.mk_model.specs.Steps.{column_after}
 use Rattle.mk_history.specs.declared.RoundLog.{RoundLog}
 use Rattle.mk_history.specs.Histories.{History, log_of}
-use Rattle.mk_history.specs.Learning.{Place, Found, Learnt, found, found_by_enter, found_by_line, found_in_log, found_in_logs, found_in_globals, found_in_round, found_from, all_found, with_path, entered_after, entered_through}
+use Rattle.mk_history.specs.Learning.{Found, Learnt, found, found_by_enter, found_by_line, found_in_log, found_in_logs, found_in_globals, found_in_round, found_from, all_found, with_path, entered_after, entered_through}
 use Rattle.mk_history.specs.Learning.Place.{InLog, InGlobals}
 use Rattle.mk_history.specs.Wholes.{WholeState, first_state, setting_of, after_logs, after_global, after_round}
 use Rattle.mk_run.specs.Walking.{is_global, told_along}

@@ -1,22 +1,21 @@
 -- So the watermark that is gathered after some rounds of a legal run is the one that is shown.
-use Rattle.std.proofs.Common.{◌≡◌, ◌∙◌, ◌<◌, ◌+◌, ◌==◌, ◌||◌, ℕ, zero, suc, Bool, refl, sym, ap, subst, arith, List, [], ◌∷◌, ◌++◌, Option, Some, None, find, length, map, take, get_or}
+use Rattle.std.proofs.Common.{◌≡◌, ◌∙◌, ◌<◌, ◌||◌, ℕ, zero, suc, refl, sym, ap, arith, List, [], ◌∷◌, ◌++◌, Option, Some, None, find, length, map, take}
 use Rattle.std.specs.Prelude.{option_map, is_some, slice_index_or}
 use Rattle.std.specs.List.{list_any}
-use Rattle.mk_lists.specs.Among.{Among}
 use Rattle.mk_lists.proofs.Lookups.{list_any-find}
 use Rattle.mk_txn.specs.declared.Stamp.{Stamp}
 use Rattle.mk_txn.specs.declared.TxnId.{TxnId}
 use Rattle.mk_txn.specs.Transactions.{same_id}
-use Rattle.mk_model.specs.ColumnState.{ColumnState, AttemptState, ClientState, Learning, attempt_of, new_column}
+use Rattle.mk_model.specs.ColumnState.{ColumnState, ClientState, Learning, new_column}
 use Rattle.mk_model.specs.Learnings.{is_decision_of, decided}
-use Rattle.mk_model.specs.Logs.{not_reading, reading_ended}
+use Rattle.mk_model.specs.Logs.{reading_ended}
 use Rattle.mk_column.specs.ColumnByCode.{ColumnView}
 use Rattle.mk_column_laws.specs.Identity.{Identity}
 use Rattle.mk_history.specs.declared.RoundLog.{RoundLog}
 use Rattle.mk_history.specs.Histories.{History, clients_of}
 use Rattle.mk_history.specs.Legality.{IsLegal}
 use Rattle.mk_history.specs.Learning.{Found, first_path}
-use Rattle.mk_history.specs.Wholes.{WholeState, first_state, state_through, column_of}
+use Rattle.mk_history.specs.Wholes.{first_state, state_through, column_of}
 use Rattle.mk_record_laws.specs.Attempts.{AttemptsAreFound}
 use Rattle.mk_run_laws.specs.Joins.{EndsJoin}
 use Rattle.mk_run_laws.specs.Lifts.{MomentsOfRounds}
@@ -30,9 +29,9 @@ use Rattle.mk_run.specs.Firsts.{first_in, first_found}
 use Rattle.mk_run.specs.Lines.{view_at}
 use Rattle.mk_run.specs.Walking.{told_along, WalkView, HasWalked}
 use Rattle.mk_feed_words.specs.Feed.{earlier_stamp, least_to, least_over}
-use Rattle.mk_feed_words.specs.MarkStamps.{Stamped, mark_for, is_closed, stamped_of, mark_of_column}
-use Rattle.mk_feed_words.specs.Shown.{settled_by, state_after, mark_at, watermark_after}
-use Rattle.mk_shown.specs.Gathering.{gathered, closed_by, mark_by, watermark_by}
+use Rattle.mk_feed_words.specs.MarkStamps.{mark_for, is_closed, stamped_of, mark_of_column}
+use Rattle.mk_feed_words.specs.Shown.{settled_by, mark_at}
+use Rattle.mk_shown.specs.Gathering.{gathered, closed_by, mark_by}
 use Rattle.mk_shown.specs.Laws.{WatermarksAreShown}
 use Rattle.mk_shown.proofs.GatherLaws.{gathered-part, stamped-part, gathered-alike, stamped-ended}
 use Rattle.mk_shown.proofs.MemberLaws.{mark-same}
@@ -125,6 +124,6 @@ module _ (found : AttemptsAreFound) (teaching : TeachingStays) (reach : RunsReac
       let front : take n run.rounds ≡ done = ap (take n) split ∙ take-front done rest in
       let each : (c : ℕ) → c < run.columns → mark_by walk run.client_columns c (view_at walk.whole.columns c).state ≡ mark_at run n c =
       λ c lt. mark-shown run legal done rest split walk walked c lt
-          ∙ ap (λ (rounds : List RoundLog). mark_of_column (settled_by run n) (column_of (state_through run (first_state run) rounds) c)) (sym front) in
+      ∙ ap (λ (rounds : List RoundLog). mark_of_column (settled_by run n) (column_of (state_through run (first_state run) rounds) c)) (sym front) in
       ap (least_over (λ c. mark_by walk run.client_columns c (view_at walk.whole.columns c).state)) count
       ∙ least_over-same (λ c. mark_by walk run.client_columns c (view_at walk.whole.columns c).state) (mark_at run n) run.columns each

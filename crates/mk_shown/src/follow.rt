@@ -86,7 +86,15 @@ fn put_rounds(out: &mut String, alloc: Global, run: &Run, past: &Past) -> Result
     let mut walk = Walk::new(alloc, head)?;
     'each: for (place, round) in run.rounds().iter().enumerate() {
         walk.replay(round)?;
-        put_round(out, alloc, &walk, past, client_columns, keys, place as u32 + 1)?;
+        put_round(
+            out,
+            alloc,
+            &walk,
+            past,
+            client_columns,
+            keys,
+            place as u32 + 1,
+        )?;
     }
     Ok(())
 }
@@ -105,7 +113,12 @@ fn put_line(out: &mut String, name: &str, version: Stamp, value: Value) -> Resul
 }
 
 // The line of what is held of a key, where it was written.
-fn put_followed(out: &mut String, name: &str, version: Stamp, value: Value) -> Result<(), AllocError>
+fn put_followed(
+    out: &mut String,
+    name: &str,
+    version: Stamp,
+    value: Value,
+) -> Result<(), AllocError>
     ensures { OnOk result (string_bytes out.new ≡ string_bytes out.old ++ spec.followed_text name.now (record { version = version; value = value })) }
 {
     if precedes(ZERO, version) {

@@ -104,11 +104,7 @@ fn is_between(stamp: Stamp, first: Option<Stamp>, last: Option<Stamp>) -> bool
 }
 
 // The greatest stamp between these, and 0.0 where there is none.
-fn greatest_between(
-    stamped: &[StampedAttempt],
-    first: Option<Stamp>,
-    last: Option<Stamp>,
-) -> Stamp
+fn greatest_between(stamped: &[StampedAttempt], first: Option<Stamp>, last: Option<Stamp>) -> Stamp
     ensures { result ≡ between first last stamped.now }
 {
     let mut greatest = ZERO;
