@@ -1,5 +1,5 @@
 //! A store before the first round of its script.
-ghost use Rattle.std.specs.Prelude.{◌×◌, List};
+ghost use Rattle.std.specs.Prelude.{List};
 ghost use Rattle.mk_script.specs.Scripts.{ScriptParts};
 ghost use Rattle.mk_script.specs.Whole.{IsWhole};
 ghost use Rattle.mk_history.specs.declared.RoundLog.{RoundLog as Round};
