@@ -4,7 +4,8 @@
 An example is a text with what the program makes of it:
 
   NAME.meerkat   a script; its first line is a comment that tells what it shows
-  NAME.report    what `run` writes for it; NAME.trace is for `run --trace`, NAME.json for `run --json`
+  NAME.report    what `run` writes for it; NAME.trace is for `run --trace`, NAME.json for `run --json`, NAME.follow for
+                 `run --follow`
   NAME.verdict   what `check` writes for NAME.trace
   NAME.words     other words, which read nothing; NAME.summary is what they write
   NAME.status    the status of `run`, 0 where there is no such file
@@ -38,7 +39,7 @@ import sys
 TOP = pathlib.Path(__file__).resolve().parent.parent
 EXAMPLES = TOP / "examples"
 PROGRAM = TOP / "crates/meerkat/out/meerkat"
-WRITES = {".report": ["run"], ".trace": ["run", "--trace"], ".json": ["run", "--json"]}
+WRITES = {".report": ["run"], ".trace": ["run", "--trace"], ".json": ["run", "--json"], ".follow": ["run", "--follow"]}
 CHANGE = re.compile(r"(\d+) ([=<>-]) ?(.*)")
 PREFIX = re.compile(r"(\d+) to (\d+) bytes")
 REPEAT = re.compile(r"(\d+) \* (.*)")

@@ -19,7 +19,7 @@ pub enum Grammar {
 #[derive(Clone, Copy, Debug, PartialEq, Eq, Error)]
 pub enum Why {
     /// The words are no form of words of the call.
-    #[error("usage: meerkat run [--trace|--json] | gen NUMBER CLIENTS TXNS KEYS | check | at STAMP | why ID")]
+    #[error("usage: meerkat run [--trace|--json|--follow] | gen NUMBER CLIENTS TXNS KEYS | check | at STAMP | why ID")]
     Usage,
     /// The bytes are not in the grammar: the first faulty line, counted from 1, and its first fault.
     #[error("line {line}: {why}")]

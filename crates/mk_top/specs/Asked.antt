@@ -9,7 +9,7 @@ use Rattle.mk_ending.specs.declared.why.Why.{Why}
 use Rattle.mk_ending.specs.declared.why.Why.TheVariants.{Refused, SourceFault, TooLong, NoMemory}
 use Rattle.mk_top.specs.declared.form.Load.{Load}
 use Rattle.mk_top.specs.declared.form.Form.{Form}
-use Rattle.mk_top.specs.declared.form.Form.TheVariants.{Report, Trace, Json, Summary}
+use Rattle.mk_top.specs.declared.form.Form.TheVariants.{Report, Trace, Json, Follow, Summary}
 
 -- the bytes of a script at the most
 abbrev pub script_limit : ℕ
@@ -34,6 +34,7 @@ abbrev pub IsScriptOf : Form → Option (List ℕ) → ScriptParts → Type 0
 IsScriptOf Report left script = Says left script
 IsScriptOf Trace left script = Says left script
 IsScriptOf Json left script = Says left script
+IsScriptOf Follow left script = Says left script
 IsScriptOf (Summary load) left script = script ≡ script_of_load load
 
 -- why these bytes are no script

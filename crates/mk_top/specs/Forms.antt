@@ -6,17 +6,20 @@ use Rattle.mk_spelling.specs.Words.{number}
 use Rattle.mk_spelling.specs.Fields.{◌>>=◌}
 use Rattle.mk_top.specs.declared.form.Load.{Load}
 use Rattle.mk_top.specs.declared.form.Form.{Form}
-use Rattle.mk_top.specs.declared.form.Form.TheVariants.{Report, Trace, Json, Summary}
+use Rattle.mk_top.specs.declared.form.Form.TheVariants.{Report, Trace, Json, Follow, Summary}
 
 -- run
 abbrev pub one_word : List ℕ → Option Form
 one_word word = if bytes_eq word (codes "run") then Some Report else None
 
--- --trace, or --json
+-- --trace, --json, or --follow
 abbrev pub option_form : List ℕ → Option Form
-option_form option = if bytes_eq option (codes "--trace") then Some Trace else if bytes_eq option (codes "--json") then Some Json else None
+option_form option =
+    if bytes_eq option (codes "--trace")
+    then Some Trace
+    else if bytes_eq option (codes "--json") then Some Json else if bytes_eq option (codes "--follow") then Some Follow else None
 
--- run with one of the two behind it
+-- run with one of the three behind it
 abbrev pub two_words : List ℕ → List ℕ → Option Form
 two_words word option = if bytes_eq word (codes "run") then option_form option else None
 
@@ -55,6 +58,7 @@ abbrev pub Fits : Form → Type 0
 Fits Report = Unit {0}
 Fits Trace = Unit {0}
 Fits Json = Unit {0}
+Fits Follow = Unit {0}
 Fits (Summary load) = IsLoad load
 
 -- a form that reads a script
@@ -62,6 +66,7 @@ abbrev pub reads : Form → Bool
 reads Report = true
 reads Trace = true
 reads Json = true
+reads Follow = true
 reads (Summary load) = false
 
 -- words of a form that reads a script

@@ -14,10 +14,11 @@ use Rattle.mk_history.specs.Safety.{IsSafe}
 use Rattle.mk_driver.specs.Driven.{IsDriven}
 use Rattle.mk_run.specs.Attempts.{outcomes_of, is_open}
 use Rattle.mk_report.specs.RunReports.{report_of, summary_of, json_of}
+use Rattle.mk_shown.specs.FollowTexts.{follow_text}
 use Rattle.mk_trace_text.specs.Traces.{trace_text}
 use Rattle.mk_top.specs.declared.form.Load.{Load}
 use Rattle.mk_top.specs.declared.form.Form.{Form}
-use Rattle.mk_top.specs.declared.form.Form.TheVariants.{Report, Trace, Json, Summary}
+use Rattle.mk_top.specs.declared.form.Form.TheVariants.{Report, Trace, Json, Follow, Summary}
 use Rattle.mk_top.specs.Asked.{IsScriptOf}
 
 -- nobody learned how some attempt of the run ended
@@ -48,4 +49,5 @@ abbrev pub text_of : Form → History → List ℕ
 text_of Report run = report_of run
 text_of Trace run = trace_text run
 text_of Json run = json_of run
+text_of Follow run = follow_text run
 text_of (Summary load) run = load_line load ++ summary_of run

@@ -29,6 +29,8 @@ pub enum Form {
     Trace,
     /// The same with the JSON of the run.
     Json,
+    /// The same with the report and what is shown of the run, round by round.
+    Follow,
     /// The script of this load is run, and the summary of its run is written.
     Summary(Load),
 }
@@ -50,6 +52,8 @@ fn option_form(option: &String) -> Option<Form>
         Some(Form::Trace)
     } else if is_word(option, "--json") {
         Some(Form::Json)
+    } else if is_word(option, "--follow") {
+        Some(Form::Follow)
     } else {
         None
     }

@@ -76,7 +76,7 @@ pub fn script_of<S: Source>(alloc: Global, form: Form, source: &mut S) -> Result
     ensures unread { reads form ≡ false → source.new ≡ source.old }
 {
     match form {
-        Form::Report | Form::Trace | Form::Json => script_from(alloc, source),
+        Form::Report | Form::Trace | Form::Json | Form::Follow => script_from(alloc, source),
         Form::Summary(load) => Ok(script_made(alloc, load)?),
     }
 }

@@ -11,6 +11,7 @@ use crate::form::{Form, Load};
 use mk_kept::Run;
 use mk_report::{json_text, report_text, summary_text};
 use mk_run::{AttemptLine, State, outcomes};
+use mk_shown::follow_text;
 use mk_trace::write_trace;
 use mk_txn::NoMemory;
 use std::alloc::{AllocError, Global};
@@ -57,6 +58,7 @@ fn text_of_run(
         Form::Report => report_text(alloc, run, lines),
         Form::Trace => write_trace(alloc, run),
         Form::Json => json_text(alloc, run, lines),
+        Form::Follow => follow_text(alloc, run, lines),
         Form::Summary(load) => summary(alloc, load, run, lines),
     }
 }

@@ -1,0 +1,6 @@
+mod BoundLaws
+mod MemberLaws
+mod ToldLaws
+mod GatherLaws
+mod WatermarkLaws
+mod FollowLaws
