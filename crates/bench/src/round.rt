@@ -1,6 +1,7 @@
 //! The first round of a script in a store.
-ghost use Rattle.std.specs.Prelude.{◌≡◌};
+ghost use Rattle.std.specs.Prelude.{[], IfOk};
 ghost use Rattle.mk_script.specs.Whole.{IsWhole};
+ghost use Rattle.mk_round.specs.Stores.{IsBetween, MayWork};
 
 use mk_faults::Rules;
 use mk_history::RoundLog;
@@ -9,6 +10,7 @@ use mk_proc::Procs;
 use mk_round::Store;
 use mk_script::Script;
 use mk_store::head_of;
+use mk_txn::NoMemory;
 use std::alloc::Global;
 use std::sync::Wait;
 use std::thread::Threads;
@@ -29,12 +31,33 @@ fn count_steps(round: &RoundLog) -> usize {
     count
 }
 
+/// The store before the first round of the script.
+fn first_store(alloc: Global, script: &Script) -> Result<Store, NoMemory>
+    ensures { IfOk result (λ store. IsBetween script.now [] store) }
+{
+    let head = head_of(alloc, script)?;
+    Store::new(alloc, script, &head)
+}
+
+/// The first round of the script, with a thread for each column.
+fn first_round<R: Threads + Wait + Sync>(
+    rt: &R,
+    alloc: Global,
+    script: &Script,
+    rules: &Rules,
+    procs: &Procs,
+    mut store: Store,
+) -> Result<RoundLog, NoMemory>
+    requires { MayWork rules.now script.now [] store }
+{
+    store.work_round(rt, alloc, rules, procs, &NoGate)
+}
+
 /// Makes the rules and the store of a script, and tells how many clients it has.
 pub fn begin(alloc: Global, script: &Script) -> Option<usize> {
-    let head = head_of(alloc, script).ok()?;
     let _rules = Rules::new(alloc, script).ok()?;
-    let _store = Store::new(alloc, script, &head).ok()?;
-    Some(head.client_columns.as_slice().len())
+    let _store = first_store(alloc, script).ok()?;
+    Some(script.clients.as_slice().len())
 }
 
 /// The same, and does the first round, with a thread for each column; tells how many steps it had. None if the script has no
@@ -49,9 +72,8 @@ pub fn work<R: Threads + Wait + Sync>(
         return None;
     }
     keeps_limits(script);
-    let head = head_of(alloc, script).ok()?;
     let rules = Rules::new(alloc, script).ok()?;
-    let mut store = Store::new(alloc, script, &head).ok()?;
-    let round = store.work_round(rt, alloc, &rules, procs, &NoGate).ok()?;
+    let store = first_store(alloc, script).ok()?;
+    let round = first_round(rt, alloc, script, &rules, procs, store).ok()?;
     Some(count_steps(&round))
 }

@@ -66,7 +66,7 @@ const OTHERS: [&str; 16] = [
     "x",
     "run x",
     "run --trace x",
-    "run --follow",
+    "run --follow x",
     "Run",
     "--help",
     "--version",
