@@ -6,7 +6,8 @@
 A time is processor time, unless it is said to be from start to end, and the best of N tries (5). What a word of `bench` takes once is
 the difference between doing it many times and doing it once, so that start and reading are not in it: 11 times, and as often as fills
 half a second where it is short. Memory is the peak of resident memory, and never less than this tool's own, some 15 MB; that of a word
-is what it adds to doing nothing to the same input.
+is what it adds to doing nothing to the same input. It is measured with one size for all from which the C library gives blocks back to
+the system: by itself it raises that size to the largest block that was freed, and then keeps such a block.
 """
 import argparse
 import os
@@ -22,6 +23,7 @@ QUESTIONS = 100_000
 MANY = 11
 SHORT, FILLED = 0.005, 0.5
 ROUND_WORDS = ("work", "drive")
+GIVEN_BACK = {**os.environ, "GLIBC_TUNABLES": "glibc.malloc.mmap_threshold=131072"}
 
 
 def program(name):
@@ -36,10 +38,10 @@ def program(name):
 class Measured:
     """What a command took; what it printed is in its file."""
 
-    def __init__(self, words, text, out):
+    def __init__(self, words, text, out, env=None):
         with open(text, "rb") as read, open(out, "wb") as write:
             began = time.monotonic()
-            child = subprocess.Popen(words, stdin=read, stdout=write)
+            child = subprocess.Popen(words, stdin=read, stdout=write, env=env)
             _, status, usage = os.wait4(child.pid, 0)
             self.elapsed = time.monotonic() - began
         child.returncode = os.waitstatus_to_exitcode(status)
@@ -127,11 +129,11 @@ class Bench:
         self.inputs = Inputs(room, self.bench, self.meerkat)
         self.kept = {}
 
-    def best(self, words, text):
+    def best(self, words, text, env=None):
         """The least times and memory of several tries."""
-        key = *words, text
+        key = *words, text, env is None
         if key not in self.kept:
-            tries = [Measured(words, text, self.out) for _ in range(self.tries)]
+            tries = [Measured(words, text, self.out, env) for _ in range(self.tries)]
             self.kept[key] = SimpleNamespace(**{it: min(getattr(one, it) for one in tries) for it in ("seconds", "elapsed", "megabytes")})
         return self.kept[key]
 
@@ -141,10 +143,10 @@ class Bench:
 
     def peak(self, words, text):
         """The megabytes of a call of `meerkat`."""
-        return self.best([self.meerkat, *words.split()], text).megabytes
+        return self.best([self.meerkat, *words.split()], text, GIVEN_BACK).megabytes
 
-    def word(self, word, text, times):
-        return self.best([self.bench, word, str(times)], text)
+    def word(self, word, text, times, env=None):
+        return self.best([self.bench, word, str(times)], text, env)
 
     def once(self, word, text, many=MANY):
         """The seconds of doing once what the word says."""
@@ -165,7 +167,7 @@ class Bench:
 
     def memory(self, word, text):
         """The megabytes that doing it adds to doing nothing."""
-        nothing, once = (self.word(word, text, times).megabytes for times in (0, 1))
+        nothing, once = (self.word(word, text, times, GIVEN_BACK).megabytes for times in (0, 1))
         return max(once - nothing, 0.0)
 
 
